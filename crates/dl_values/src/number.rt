@@ -45,13 +45,7 @@ fn from_zero(digits: &[u8]) -> Option<i64>
 {
     match magnitude(digits) {
         None => None,
-        Some(n) => {
-            if n < MOST {
-                Some(n as i64)
-            } else {
-                None
-            }
-        }
+        Some(n) => { if n < MOST { Some(n as i64) } else { None } }
     }
 }
 
