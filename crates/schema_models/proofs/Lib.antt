@@ -1,3 +1,5 @@
 mod CellTypeLemmas
 mod FaultLemmas
+mod FoldLemmas
 mod Lists
+mod MergeLemmas

@@ -4,6 +4,10 @@
 mod cell_types;
 mod column_def;
 mod faults;
+mod folds;
+mod gathering;
+mod keys;
+mod merges;
 mod model;
 mod names;
 mod role;
@@ -11,6 +15,9 @@ mod shape;
 mod shape_error;
 
 pub use column_def::ColumnDef;
+pub use folds::fold;
+pub use keys::key_of;
+pub use merges::{merge_by_role, merge_rows};
 pub use model::Model;
 pub use names::is_name;
 pub use role::Role;
