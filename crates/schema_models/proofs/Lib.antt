@@ -3,3 +3,4 @@ mod FaultLemmas
 mod FoldLemmas
 mod Lists
 mod MergeLemmas
+pub mod RowMerges

@@ -7,6 +7,7 @@ mod faults;
 mod folds;
 mod gathering;
 mod keys;
+pub mod laws;
 mod merges;
 mod model;
 mod names;
