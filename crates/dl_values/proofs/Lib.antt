@@ -1,0 +1,5 @@
+mod BlankLemmas
+mod EndedRows
+mod NumberLemmas
+mod OrderLemmas
+mod TextLemmas

@@ -1,0 +1,4 @@
+pub mod Days
+pub mod Order
+pub mod Read
+pub mod Write
