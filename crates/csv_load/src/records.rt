@@ -7,7 +7,8 @@ ghost use Rattle.csv_load.specs.Reading.{IsOutside};
 ghost use Rattle.csv_load.specs.Records.{records};
 
 use csv::{ByteRecord, Error, ErrorKind, Reader, ReaderBuilder};
-use std::alloc::{AllocError, Global};
+use dl_values::NoMemory;
+use std::alloc::Global;
 use std::marker::Model;
 
 /// The records of a body that are not yet read.
@@ -45,7 +46,7 @@ impl<'a> Records<'a> {
 
     /// Puts the first record that is left into `into`; false where none is.
     /// After an error there are none.
-    pub(crate) fn read(&mut self, into: &mut ByteRecord) -> Result<bool, AllocError>
+    pub(crate) fn read(&mut self, into: &mut ByteRecord) -> Result<bool, NoMemory>
         ensures { IfOk result (λ found. self.old ≡ (if found then fields_of into.new ∷ self.new else [])) }
     {
         match self.reader.read_byte_record(into) {
@@ -56,11 +57,11 @@ impl<'a> Records<'a> {
 }
 
 // A slice of bytes gives no errors of its own, and a flexible reader refuses no record: what is left is memory.
-fn only_memory(error: Error) -> AllocError
+fn only_memory(error: Error) -> NoMemory
     requires { IsOutside (error_kind error) }
 {
     match error.kind() {
-        ErrorKind::OutOfMemory | ErrorKind::Io(_) => AllocError,
+        ErrorKind::OutOfMemory | ErrorKind::Io(_) => NoMemory,
         _ => unreachable!(),
     }
 }
