@@ -171,13 +171,25 @@ from_start separator xs n10 n13 =
     map-same f g h [] = refl
     map-same f g h (l ∷ ls) = cc (h l, map-same f g h ls)
 
+-- a text that is shorter than a mark has none
+short : (p q : Bool) (x y : List ℕ) → x ≡ (if p && (q && false) then y else x)
+short true true x y = refl
+short true false x y = refl
+short false q x y = refl
+
+whole : (p q r : Bool) (x y : List ℕ) → (if p && q && r then y else x) ≡ (if p && (q && (r && true)) then y else x)
+whole true true true x y = refl
+whole true true false x y = refl
+whole true false r x y = refl
+whole false q r x y = refl
+
 -- the byte order mark of `csv` is ours
 mark : (xs : List ℕ) → strip_bom xs ≡ without_mark xs
 unfolding strip_bom without_mark
 mark [] = refl
-mark (a ∷ []) = refl
-mark (a ∷ b ∷ []) = refl
-mark (a ∷ b ∷ c ∷ rest) = refl
+mark (a ∷ []) = short (a == 0xEF) true (a ∷ []) []
+mark (a ∷ b ∷ []) = short (a == 0xEF) (b == 0xBB) (a ∷ b ∷ []) []
+mark (a ∷ b ∷ c ∷ rest) = whole (a == 0xEF) (b == 0xBB) (c == 0xBF) (a ∷ b ∷ c ∷ rest) rest
 
 -- a reader at the start of a body has its records left
 pub left-at_start : {R : Type 0} (rem : R → Option (List ℕ)) (r : Reader R) (separator : ℕ) (body : List ℕ) → separator ≢ 10 → separator ≢ 13

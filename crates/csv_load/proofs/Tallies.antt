@@ -54,10 +54,10 @@ pub tally-nothing : (row_of : List (List ℕ) → Option (List Cell)) → nothin
 unfolding tally
 tally-nothing row_of = refl
 
-pub tally-total : (row_of : List (List ℕ) → Option (List Cell)) (rs : List (List (List ℕ))) → (tally row_of rs).total ≡ length rs
+pub total-length : (row_of : List (List ℕ) → Option (List Cell)) (rs : List (List (List ℕ))) (p : Parsed) → p ≡ tally row_of rs → p.total ≡ length rs
 unfolding tally
-tally-total row_of rs = refl
+total-length row_of rs p e = ap (λ q. q.total) e
 
-pub tally-filtered : (row_of : List (List ℕ) → Option (List Cell)) (rs : List (List (List ℕ))) → (tally row_of rs).filtered ≤ (tally row_of rs).total
+pub filtered-most : (row_of : List (List ℕ) → Option (List Cell)) (rs : List (List (List ℕ))) (p : Parsed) → p ≡ tally row_of rs → p.filtered ≤ p.total
 unfolding tally
-tally-filtered row_of rs = count_by-le-length (λ x. is_none (row_of x)) rs
+filtered-most row_of rs p e = rw e (count_by-le-length (λ x. is_none (row_of x)) rs)

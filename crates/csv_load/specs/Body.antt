@@ -4,6 +4,7 @@ use Rattle.std.specs.Prelude.{ℕ, ◌&&◌, not, List, [], ◌∷◌, Bool, tru
 use Rattle.std.specs.List.{filter_map, count_by, position_from}
 use Rattle.std.specs.Str.{bytes_eq}
 use Rattle.dl_values.specs.Read.{read}
+use Rattle.dl_values.specs.Write.{null_text}
 use Rattle.dl_values.specs.declared.cell.Cell.{Cell}
 use Rattle.dl_values.specs.declared.cell.Cell.TheVariants as cell
 use Rattle.schema_models.specs.ShapeView.{ShapeView}
@@ -11,10 +12,6 @@ use Rattle.schema_models.specs.declared.column_def.ColumnDef.{ColumnDef}
 use Rattle.csv_load.specs.Records.{records}
 use Rattle.csv_load.specs.declared.options.Options.{Options}
 use Rattle.csv_load.specs.declared.parsed.Parsed.{Parsed}
-
--- the field `\N`
-abbrev pub null_text : List ℕ
-null_text = 92 ∷ 78 ∷ []
 
 -- null, where a column may be null
 abbrev pub null_if : Bool → Option Cell

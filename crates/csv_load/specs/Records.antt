@@ -1,13 +1,15 @@
 -- The records of a body: its lines that are not empty, each cut into fields.
-use Rattle.std.specs.Prelude.{ℕ, ◌==◌, ◌&&◌, ◌||◌, List, [], ◌∷◌, Bool, true, false, if◌then◌else◌, map}
+use Rattle.std.specs.Prelude.{ℕ, ◌==◌, ◌||◌, List, [], ◌∷◌, Bool, true, false, if◌then◌else◌, map, take, drop}
 use Rattle.std.specs.List.{filter, slice_split}
+use Rattle.std.specs.Str.{bytes_eq}
 
--- the byte order mark, U+FEFF in UTF-8, is no part of the text: one at its start is dropped
+-- the byte order mark, U+FEFF in UTF-8 (RFC 3629, section 6)
+abbrev pub byte_order_mark : List ℕ
+byte_order_mark = 0xEF ∷ 0xBB ∷ 0xBF ∷ []
+
+-- a mark at the start of a text is no part of it: it is dropped, once
 unfoldable pub without_mark : List ℕ → List ℕ
-without_mark [] = []
-without_mark (a ∷ []) = a ∷ []
-without_mark (a ∷ b ∷ []) = a ∷ b ∷ []
-without_mark (a ∷ b ∷ c ∷ rest) = if (a == 0xEF) && (b == 0xBB) && (c == 0xBF) then rest else a ∷ b ∷ c ∷ rest
+without_mark text = if bytes_eq (take 3 text) byte_order_mark then drop 3 text else text
 
 -- LF and CR end a line; between the two of CRLF stands an empty line, and those are skipped
 abbrev pub ends_line : ℕ → Bool

@@ -1,7 +1,7 @@
 // Reading a body.
 ghost use Rattle.std.specs.Prelude.{◌≡◌, ◌<◌, ◌≤◌, IfOk, OnOk, IfErr, option_copied, length};
 ghost use Rattle.csv_load.specs.Body.{body, is_inside, records_by};
-ghost use Rattle.csv_load.specs.Refusal.{Explains};
+ghost use Rattle.csv_load.specs.Refusal.{Explains, max_records};
 
 use crate::parsed::{count, parsed_none};
 use crate::records::Records;
@@ -24,7 +24,7 @@ pub fn read_body<I: Inside>(
     bytes: &[u8],
 ) -> Result<Parsed, BodyFault>
     ensures parsed { IfOk result (λ p. p ≡ body shape.now (is_inside I.inside (option_copied inside.entry)) options.now bytes.now) }
-    ensures within { OnOk result (length (records_by options.now bytes.now) ≤ MAX_RECORDS) }
+    ensures within { OnOk result (length (records_by options.now bytes.now) ≤ max_records) }
     ensures refused { IfErr result (Explains (length (records_by options.now bytes.now))) }
 {
     let mut records = Records::of(alloc, options.separator, bytes);

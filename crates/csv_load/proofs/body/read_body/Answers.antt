@@ -3,20 +3,17 @@ use Rattle.csv.specs.Records.{fields_of}
 use Rattle.dl_values.specs.declared.cell.Cell.{Cell}
 use Rattle.csv_load.specs.Body.{is_inside, row_of, tally}
 use Rattle.csv_load.specs.Counting.{counted}
-use Rattle.csv_load.proofs.Tallies.{tally-push, tally-nothing, tally-total, tally-filtered}
+use Rattle.csv_load.proofs.Tallies.{tally-push, tally-nothing, total-length, filtered-most}
 use Rattle.csv_load.proofs.body.read_body.Goals as goal
 
 pub loop-init : goal.loop-init
 loop-init g c = ([], sym c.of-records.ensures, c.parsed_none-parsed.ensures ∙ tally-nothing _, refl)
 
 pub count-requires-clause-room : goal.count-requires-clause-room
-count-requires-clause-room g c =
-    let inv = c.loop.invariant in
-    omega (arith, ap (λ p. p.total) inv.2, tally-total (row_of (is_inside g.I.Inside.inside (option_copied c.args.inside)) c.args.options.now.strict c.args.shape.now.columns) inv.0, inv.3)
+count-requires-clause-room g c = omega (arith, total-length _ c.loop.invariant.0 c.loop.parsed c.loop.invariant.2, c.loop.invariant.3)
 
 pub count-requires-clause-fewer : goal.count-requires-clause-fewer
-count-requires-clause-fewer g c =
-    rw c.loop.invariant.2 (tally-filtered (row_of (is_inside g.I.Inside.inside (option_copied c.args.inside)) c.args.options.now.strict c.args.shape.now.columns) c.loop.invariant.0)
+count-requires-clause-fewer g c = filtered-most _ c.loop.invariant.0 c.loop.parsed c.loop.invariant.2
 
 pub loop-preserved : goal.loop-preserved
 loop-preserved g c =
