@@ -1,0 +1,60 @@
+-- The columns that column words name, and the first word at fault (this project's own).
+use Rattle.std.specs.Prelude.{ℕ, ◌+◌, ◌==◌, ◌||◌, List, [], ◌∷◌, ◌++◌, Bool, true, Option, Some, None, is_some, codes, if◌then◌else◌, take, drop, length, position, option_map}
+use Rattle.std.specs.Option.{option_and_then}
+use Rattle.std.specs.Str.{bytes_eq}
+use Rattle.dl_values.specs.declared.agg_kind.AggKind.TheVariants as agg
+use Rattle.dl_values.specs.declared.col_type.ColType.{ColType}
+use Rattle.dl_values.specs.declared.col_type.ColType.TheVariants as kind
+use Rattle.schema_models.specs.Faults.{first_of}
+use Rattle.schema_models.specs.ShapeRules.{column_faults}
+use Rattle.schema_models.specs.declared.column_def.ColumnDef.{ColumnDef}
+use Rattle.schema_models.specs.declared.model.Model.TheVariants as model
+use Rattle.schema_models.specs.declared.role.Role.{Role}
+use Rattle.schema_models.specs.declared.role.Role.TheVariants as role
+
+-- the parts of a text before and behind its first colon, where it has one
+abbrev pub cut_at_colon : List ℕ → Option (List ℕ × List ℕ)
+cut_at_colon text = option_map (λ i. (take i text, drop (i + 1) text)) (position (λ b. b == 58) text)
+
+abbrev pub type_of : List ℕ → Option ColType
+type_of word = if bytes_eq word (codes "INT") then Some kind.Int else if bytes_eq word (codes "BIGINT") then Some kind.BigInt else None
+
+abbrev pub role_of : List ℕ → Option Role
+role_of word = if bytes_eq word (codes "KEY") then Some role.Key else if bytes_eq word (codes "SUM") then Some (role.Agg agg.Sum) else None
+
+-- a nullable column without a default
+abbrev pub column : List ℕ → Option ColType → Option Role → Option ColumnDef
+column name (Some t) (Some r) = Some (record { name = name; kind = t; nullable = true; role = r; default = None })
+column name (Some t) None = None
+column name None r = None
+
+-- the column that `TYPE:ROLE` gives to a name
+abbrev pub typed_column : List ℕ → List ℕ → Option ColumnDef
+typed_column name text = option_and_then (λ p. column name (type_of p.0) (role_of p.1)) (cut_at_colon text)
+
+-- the column of a word `name:TYPE:ROLE`
+unfoldable pub column_of : List ℕ → Option ColumnDef
+column_of word = option_and_then (λ p. typed_column p.0 p.1) (cut_at_colon word)
+
+-- the columns of the words before the first that is no column
+abbrev pub onto_columns : Option ColumnDef → List ColumnDef → List ColumnDef
+onto_columns None later = []
+onto_columns (Some c) later = c ∷ later
+
+unfoldable pub columns_of : List (List ℕ) → List ColumnDef
+columns_of [] = []
+columns_of (word ∷ words) = onto_columns (column_of word) (columns_of words)
+
+-- whether a column may not stand behind these columns of an Aggregate table, which has at most 64
+abbrev pub is_refused : List ColumnDef → ColumnDef → Bool
+is_refused before c = (length before == 64) || is_some (first_of (column_faults model.Aggregate before c))
+
+-- the number of the first word at fault, where the first of these has the number n: it is no column, or its column may not
+-- stand behind those before it
+abbrev pub bad_from : ℕ → List ColumnDef → Option ColumnDef → Option ℕ → Option ℕ
+bad_from n before None later = Some n
+bad_from n before (Some c) later = if is_refused before c then Some n else later
+
+unfoldable pub bad_word : ℕ → List ColumnDef → List (List ℕ) → Option ℕ
+bad_word n before [] = None
+bad_word n before (word ∷ words) = bad_from n before (column_of word) (bad_word (n + 1) (before ++ columns_of (word ∷ [])) words)
