@@ -2,6 +2,8 @@
 ghost use Rattle.std.specs.Prelude.{◌≡◌};
 ghost use Rattle.service.specs.Exits.{status_of};
 
+use dl_values::NoMemory;
+
 /// How a run ends (this project's own).
 #[derive(Clone, Copy, Debug, PartialEq, Eq)]
 pub enum Exit {
@@ -38,5 +40,16 @@ impl Exit {
             Exit::TooManyFiltered { .. } => 10,
             Exit::TooBig { .. } => 12,
         }
+    }
+}
+
+impl From<NoMemory> for Exit {
+    ghost use Rattle.std.specs.Prelude.{◌≡◌};
+    ghost use Rattle.service.specs.declared.exit.Exit.TheVariants as exit;
+
+    ghost from_gives = { λ _ e. e ≡ exit.NoMemory };
+
+    fn from(_: NoMemory) -> Exit {
+        Exit::NoMemory
     }
 }

@@ -11,7 +11,7 @@ const USAGE: &str = "usage: labelload dryrun MODEL COLUMN... | run [JOURNAL] | s
 
 // Adds a text and a number.
 fn add_field(out: &mut Vec<u8>, text: &str, value: u64) -> Result<(), NoMemory>
-    ensures { OnOk result (out.new.items ≡ out.old.items ++ text.now ++ decimal value) }
+    ensures { OnOk result (out.new.items ≡ out.old.items ++ (text.now ++ decimal value)) }
 {
     let mut digits = Buffer::new();
     out.extend_from_slice(text.as_bytes())?;

@@ -2,12 +2,12 @@
 #![tactic(auto)]
 
 mod columns;
-mod dryrun;
+
 mod exit;
 mod exit_text;
 mod rows_text;
-mod run;
+
 mod words;
 
 pub use exit::Exit;
-pub use run::run;
+
