@@ -1,2 +1,3 @@
+pub mod Dryruns
 pub mod ReadShapes
 pub mod Scans

@@ -1,5 +1,5 @@
 -- What `dryrun` writes, and how it ends (this project's own).
-use Rattle.std.specs.Prelude.{◌≡◌, ◌⊎◌, ℕ, List, [], ◌∷◌, ◌++◌, Bool, true, Option, Some, None, length, nat_lt, if◌then◌else◌}
+use Rattle.std.specs.Prelude.{◌≡◌, ◌⊎◌, ◌<◌, ℕ, List, [], ◌∷◌, ◌++◌, Bool, true, Option, Some, None, length, nat_lt, if◌then◌else◌}
 use Rattle.std.specs.List.{flat_map}
 use Rattle.csv_load.specs.Body.{row_of, tally}
 use Rattle.csv_load.specs.Records.{records}
@@ -7,8 +7,8 @@ use Rattle.csv_load.specs.declared.parsed.Parsed.{Parsed}
 use Rattle.dl_values.specs.Write.{cell_text}
 use Rattle.dl_values.specs.declared.cell.Cell.{Cell}
 use Rattle.schema_models.specs.Folds.{fold_of}
+use Rattle.schema_models.specs.ShapeView.{ShapeView}
 use Rattle.service.specs.Columns.{bad_word, first_column, shape_of}
-use Rattle.service.specs.Words.{dryrun_columns}
 use Rattle.service.specs.declared.exit.Exit.{Exit}
 use Rattle.service.specs.declared.exit.Exit.TheVariants as exit
 
@@ -29,24 +29,24 @@ rows_text rows = flat_map row_text rows
 unfoldable pub tab_records : List ℕ → List (List (List ℕ))
 tab_records body = records 9 body
 
--- what a body whose fields end by tabs gives the columns of a table, in strict mode
-unfoldable pub parsed : List (List ℕ) → List ℕ → Parsed
-parsed columns body = tally (row_of (λ _. true) true (shape_of columns).columns) (tab_records body)
+-- what a body whose fields end by tabs gives a table, in strict mode
+unfoldable pub parsed : ShapeView → List ℕ → Parsed
+parsed shape body = tally (row_of (λ _. true) true shape.columns) (tab_records body)
 
--- what is written: the fold of the rows of the body
-unfoldable pub dryrun_text : List (List ℕ) → List ℕ → List ℕ
-dryrun_text columns body = rows_text (fold_of (shape_of columns) (parsed columns body).rows)
+-- the text of the fold of the rows of a body
+unfoldable pub fold_text : ShapeView → List ℕ → List ℕ
+fold_text shape body = rows_text (fold_of shape (parsed shape body).rows)
 
 -- how a body ends the run: by its size in bytes, else by its number of records, else by its first record that gives no row
 abbrev pub exit_by_record : Option ℕ → Exit
 exit_by_record None = exit.Ok
 exit_by_record (Some line) = exit.TooManyFiltered line
 
-abbrev pub exit_of_body : List (List ℕ) → List ℕ → Exit
-exit_of_body columns body =
-    if nat_lt 16777216 (length body) then exit.TooBig 16777216
-    else if nat_lt 1000000 (length (tab_records body)) then exit.TooBig 1000000
-    else exit_by_record (parsed columns body).first_bad
+abbrev pub exit_of_records : ShapeView → List ℕ → Exit
+exit_of_records shape body = if nat_lt 1000000 (length (tab_records body)) then exit.TooBig 1000000 else exit_by_record (parsed shape body).first_bad
+
+unfoldable pub exit_of_body : ShapeView → List ℕ → Exit
+exit_of_body shape body = if nat_lt 16777216 (length body) then exit.TooBig 16777216 else exit_of_records shape body
 
 -- how column words and a body end the run
 abbrev pub exit_by_word : Option ℕ → Exit → Exit
@@ -54,20 +54,48 @@ exit_by_word (Some word) later = exit.BadDef word
 exit_by_word None later = later
 
 abbrev pub exit_of_columns : List (List ℕ) → List ℕ → Exit
-exit_of_columns columns body = exit_by_word (bad_word first_column [] columns) (exit_of_body columns body)
+exit_of_columns columns body = exit_by_word (bad_word first_column [] columns) (exit_of_body (shape_of columns) body)
 
 -- how words and a body end the run, where no device fails and memory is ample
-abbrev pub exit_by_form : Option (List (List ℕ)) → List ℕ → Exit
-exit_by_form None body = exit.Usage
-exit_by_form (Some columns) body = exit_of_columns columns body
-
-abbrev pub exit_of : List (List ℕ) → List ℕ → Exit
-exit_of words body = exit_by_form (dryrun_columns words) body
+abbrev pub exit_of_form : Option (List (List ℕ)) → List ℕ → Exit
+exit_of_form None body = exit.Usage
+exit_of_form (Some columns) body = exit_of_columns columns body
 
 -- what the words write for a body
-abbrev pub text_by_form : Option (List (List ℕ)) → List ℕ → List ℕ
-text_by_form None body = []
-text_by_form (Some columns) body = dryrun_text columns body
+abbrev pub text_of_form : Option (List (List ℕ)) → List ℕ → List ℕ
+text_of_form None body = []
+text_of_form (Some columns) body = fold_text (shape_of columns) body
 
-abbrev pub text_of_run : List (List ℕ) → List ℕ → List ℕ
-text_of_run words body = text_by_form (dryrun_columns words) body
+-- an exit where this one is due: it, or a device failed, or memory was short; a write can fail only where all was to be
+-- written
+abbrev pub Judges : Exit → Exit → Type 0
+Judges due exit.ReadFault = Unit {0}
+Judges due exit.NoMemory = Unit {0}
+Judges due exit.WriteFault = due ≡ exit.Ok
+Judges due exit.Ok = due ≡ exit.Ok
+Judges due exit.Usage = due ≡ exit.Usage
+Judges due (exit.BadDef word) = due ≡ exit.BadDef word
+Judges due (exit.TooManyFiltered line) = due ≡ exit.TooManyFiltered line
+Judges due (exit.TooBig limit) = due ≡ exit.TooBig limit
+
+-- an exit where no device failed
+abbrev pub EndsBy : Exit → Exit → Type 0
+EndsBy due e = (e ≡ due) ⊎ (e ≡ exit.NoMemory)
+
+-- an exit for the sake of the input alone
+abbrev pub IsOfInput : Exit → Type 0
+IsOfInput exit.Ok = ⊥
+IsOfInput exit.Usage = ⊥
+IsOfInput exit.WriteFault = ⊥
+IsOfInput (exit.BadDef word) = ⊥
+IsOfInput exit.ReadFault = Unit {0}
+IsOfInput exit.NoMemory = Unit {0}
+IsOfInput (exit.TooManyFiltered line) = Unit {0}
+IsOfInput (exit.TooBig limit) = Unit {0}
+
+-- an exit for the sake of reading the input: it has more bytes than may be read, a read failed, or memory was short
+abbrev pub IsCut : List ℕ → Exit → Type 0
+IsCut body exit.ReadFault = Unit {0}
+IsCut body exit.NoMemory = Unit {0}
+IsCut body (exit.TooBig limit) = (limit ≡ 16777216) × (16777216 < length body)
+IsCut body _ = ⊥

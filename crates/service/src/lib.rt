@@ -2,12 +2,12 @@
 #![tactic(auto)]
 
 mod columns;
-
+mod command;
+mod dryrun;
 mod exit;
 mod exit_text;
 mod rows_text;
-
 mod words;
 
+pub use command::run;
 pub use exit::Exit;
-
