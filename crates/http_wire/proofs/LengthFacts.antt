@@ -56,13 +56,13 @@ pub differs : (before after : List Pair) (field : Pair) (earlier : ℕ) → is_n
     → HasBadLength (before ++ field ∷ after)
 differs before after field earlier e found other =
     inr
-      (inr
-        (λ n all.
-          let whole : AllWrite n (lengths before ++ field.1 ∷ lengths after) = subst (AllWrite n) (with before after field e) all in
-          let front : AllWrite n (lengths before) = left (λ value. digits_value 10 value ≡ n) (lengths before) (field.1 ∷ lengths after) whole in
-          let here : digits_value 10 field.1 ≡ n =
-          All-head (λ value. digits_value 10 value ≡ n) field.1 (lengths after) (right (λ value. digits_value 10 value ≡ n) (lengths before) (field.1 ∷ lengths after) whole) in
-          other (first (lengths before) earlier n found.equal.0 found.equal.1 front ∙ sym here)))
+    (inr
+    (λ n all.
+    let whole : AllWrite n (lengths before ++ field.1 ∷ lengths after) = subst (AllWrite n) (with before after field e) all in
+    let front : AllWrite n (lengths before) = left (λ value. digits_value 10 value ≡ n) (lengths before) (field.1 ∷ lengths after) whole in
+    let here : digits_value 10 field.1 ≡ n =
+    All-head (λ value. digits_value 10 value ≡ n) field.1 (lengths after) (right (λ value. digits_value 10 value ≡ n) (lengths before) (field.1 ∷ lengths after) whole) in
+    other (first (lengths before) earlier n found.equal.0 found.equal.1 front ∙ sym here)))
 
 -- a value that writes the same number as those before it
 more : (before : List Pair) (field : Pair) (n : ℕ) → is_named (codes "transfer-encoding") field ≡ false → is_named (codes "content-length") field ≡ true → IsLengthText field.1

@@ -1,3 +1,6 @@
 pub mod Digits
+pub mod HeadFacts
 pub mod LengthFacts
+pub mod MakeFacts
 pub mod Ranges
+pub mod TakeFacts

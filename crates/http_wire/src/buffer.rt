@@ -1,5 +1,5 @@
 // The bytes that have left the source and were not handed out yet.
-ghost use Rattle.std.specs.Prelude.{◌≡◌, ◌≤◌, ◌<◌, ◌+◌, ◌-◌, [], MatchResult, ⊤, drop, length, min, slice_range, take};
+ghost use Rattle.std.specs.Prelude.{◌≡◌, ◌≤◌, ◌<◌, ◌+◌, ◌-◌, [], MatchResult, ⊤, drop, length, slice_range, take};
 ghost use Rattle.std.specs.Io.KnownBytes.{Keeps};
 ghost use Rattle.dl_outside.specs.Faults.{HasRisen};
 ghost use Rattle.dl_outside.specs.Reading.{AddsPiece};
@@ -8,9 +8,9 @@ use crate::MAX_HEAD;
 use dl_outside::{Failed, Source};
 use std::marker::Model;
 
-// Twice the longest head: a shift to the front then moves fewer bytes than were handed out since the last one, so that
-// its cost is a constant for each byte.
-const ROOM: usize = 32768;
+// Large, since a body is read through it, and more than twice the longest head: a shift to the front then moves fewer
+// bytes than were handed out since the last one, so that its cost is a constant for each byte.
+const ROOM: usize = 65536;
 
 /// The pending bytes, oldest first. It takes no memory but its own.
 #[derive(Drop)]
@@ -27,7 +27,7 @@ impl Model for Buffer {
 
     ghost view = { λ b. slice_range b.bytes b.start b.end };
 
-    ghost invariant = { λ b. (b.start ≤ b.end) × (b.end ≤ 32768) };
+    ghost invariant = { λ b. (b.start ≤ b.end) × (b.end ≤ 65536) };
 }
 
 impl Buffer {
@@ -65,18 +65,6 @@ impl Buffer {
         self.start += count;
     }
 
-    /// Moves bytes to the front of some room, as many as there are and fit.
-    pub fn move_into(&mut self, room: &mut [u8]) -> usize
-        ensures count { result ≡ min (length self.old) (length room.old) }
-        ensures moved { take result room.new ≡ take result self.old }
-        ensures rest { self.new ≡ drop result self.old }
-    {
-        let count = self.len().min(room.len());
-        room[..count].copy_from_slice(&self.bytes[self.start..self.start + count]);
-        self.start += count;
-        count
-    }
-
     /// Reads once from the source, behind the bytes that are there.
     pub fn refill<S: Source>(&mut self, source: &mut S) -> Result<usize, Failed>
         requires { length self.old < 16384 }
@@ -101,11 +89,11 @@ impl Buffer {
 // the end.
 fn with_room(bytes: &mut [u8], start: usize, end: usize) -> (usize, usize)
     requires order { start ≤ end }
-    requires within { end ≤ 32768 }
-    requires whole { length bytes.old ≡ 32768 }
+    requires within { end ≤ 65536 }
+    requires whole { length bytes.old ≡ 65536 }
     requires short { end - start < 16384 }
     ensures order { result.0 ≤ result.1 }
-    ensures room { result.1 < 32768 }
+    ensures room { result.1 < 65536 }
     ensures same { slice_range bytes.new result.0 result.1 ≡ slice_range bytes.old start end }
 {
     if start == end {

@@ -7,9 +7,11 @@
 mod buffer;
 mod error;
 mod fields;
+mod find;
 mod head;
 mod head_text;
 mod length;
+mod make;
 mod reader;
 
 pub use error::WireError;
