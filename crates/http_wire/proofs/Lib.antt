@@ -1,3 +1,4 @@
+pub mod BodyFacts
 pub mod Digits
 pub mod HeadFacts
 pub mod LengthFacts

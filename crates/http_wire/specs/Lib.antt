@@ -3,3 +3,4 @@ pub mod Fields
 pub mod Heads
 pub mod Lengths
 pub mod Reader
+pub mod Taking

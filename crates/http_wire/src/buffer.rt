@@ -1,6 +1,6 @@
 // The bytes that have left the source and were not handed out yet.
-ghost use Rattle.std.specs.Prelude.{◌≡◌, ◌≤◌, ◌<◌, ◌+◌, ◌-◌, [], MatchResult, ⊤, drop, length, slice_range, take};
-ghost use Rattle.std.specs.Io.KnownBytes.{Keeps};
+ghost use Rattle.std.specs.Prelude.{◌≡◌, ◌≢◌, ◌≤◌, ◌<◌, ◌+◌, ◌-◌, [], IfOk, IsErr, MatchBool, MatchResult, drop, length, slice_range, take};
+ghost use Rattle.std.specs.Io.KnownBytes.{IsAtEnd, Keeps, prepend_known};
 ghost use Rattle.dl_outside.specs.Faults.{HasRisen};
 ghost use Rattle.dl_outside.specs.Reading.{AddsPiece};
 
@@ -65,12 +65,28 @@ impl Buffer {
         self.start += count;
     }
 
+    /// Reads once from the source where there are no bytes, and tells whether there are some then.
+    pub fn fill<S: Source>(&mut self, source: &mut S) -> Result<bool, Failed>
+        ensures some { IfOk result (λ some. MatchBool some (self.new ≢ []) ((self.new ≡ []) × IsAtEnd (S.left source.new))) }
+        ensures keeps { Keeps (prepend_known self.old (S.left source.old)) (prepend_known self.new (S.left source.new)) }
+        ensures later { S.faults source.old ≤ S.faults source.new }
+        ensures cause { IsErr result → HasRisen (S.faults source.old) (S.faults source.new) }
+    {
+        if self.len() > 0 {
+            return Ok(true);
+        }
+        match self.refill(source) {
+            Ok(count) => Ok(count > 0),
+            Err(Failed) => Err(Failed),
+        }
+    }
+
     /// Reads once from the source, behind the bytes that are there.
     pub fn refill<S: Source>(&mut self, source: &mut S) -> Result<usize, Failed>
         requires { length self.old < 16384 }
         ensures read { MatchResult result (λ n. AddsPiece n (S.left source.old) self.old (S.left source.new) self.new) (λ _. (self.new ≡ self.old) × Keeps (S.left source.old) (S.left source.new)) }
         ensures later { S.faults source.old ≤ S.faults source.new }
-        ensures cause { MatchResult result (λ _. ⊤) (λ _. HasRisen (S.faults source.old) (S.faults source.new)) }
+        ensures cause { IsErr result → HasRisen (S.faults source.old) (S.faults source.new) }
     {
         let (start, end) = with_room(&mut self.bytes, self.start, self.end);
         self.start = start;

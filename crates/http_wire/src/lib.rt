@@ -4,6 +4,7 @@
 //! RFC 9112 as `httparse` reads it, with this project's own limits.
 #![tactic(auto)]
 
+mod body;
 mod buffer;
 mod error;
 mod fields;

@@ -5,11 +5,12 @@ ghost use Rattle.dl_outside.specs.Faults.{HasRisen};
 ghost use Rattle.dl_outside.specs.Reading.{ConsumesSome};
 ghost use Rattle.httparse.specs.Grammar.{RequestHead};
 ghost use Rattle.httparse.specs.Spans.{IsRequestAt, IsRequestWithin};
-ghost use Rattle.http_wire.specs.Bodies.{BodyFault};
+ghost use Rattle.http_wire.specs.Bodies.{BodyFault, IsBodyOf};
 ghost use Rattle.http_wire.specs.Heads.{HandsOut, HeadFault, IsFoundAt, KeepsBack, TakesHead};
 ghost use Rattle.http_wire.specs.Reader.{Reader, StaysAt, input, place_after};
 ghost use Rattle.http_wire.specs.declared.head.BodyLength.TheVariants.{Fixed};
 
+use crate::body::{NoBody, take_body};
 use crate::buffer::Buffer;
 use crate::find::{NoHead, find_head};
 use crate::make::make_head;
@@ -68,14 +69,55 @@ impl HttpReader {
         ensures stays { MatchResult result (λ found. IsNone found → StaysAt self.old (S.left source.old) self.new (S.left source.new)) (λ _. StaysAt self.old (S.left source.old) self.new (S.left source.new)) }
         ensures later { S.faults source.old ≤ S.faults source.new }
     {
-        if self.buffer.len() == 0 {
-            match self.buffer.refill(source) {
-                Ok(0) => return Ok(None),
-                Ok(_) => {}
-                Err(Failed) => return Err(WireError::ReadFault),
-            }
+        match self.buffer.fill(source) {
+            Ok(false) => Ok(None),
+            Ok(true) => Ok(Some(self.read_head(alloc, source)?)),
+            Err(Failed) => Err(WireError::ReadFault),
         }
-        Ok(Some(self.read_head(alloc, source)?))
+    }
+
+    /// The body of a head, which is the last that was read, out of the bytes behind it.
+    ///
+    /// It is read in pieces of up to 64 KiB. What is held is the body, in memory of its exact length, and one piece.
+    ///
+    /// # Errors
+    ///
+    /// `BodyTooLong` before a byte of it is read, `CutBody` where the input ends in it, `ReadFault` and `NoMemory`; what
+    /// was read of it is then lost. `BadLength` for a body in chunks, which no head has yet.
+    pub fn read_body<S: Source>(
+        &mut self,
+        alloc: Global,
+        source: &mut S,
+        head: &Head,
+    ) -> Result<Vec<u8>, WireError>
+        ensures body { IfOk result (λ body. IsBodyOf head.now.body body.items) }
+        ensures input { IfOk result (λ body. Consumes (input self.old (S.left source.old)) (input self.new (S.left source.new)) body.items) }
+        ensures place { IfOk result (λ body. self.new.at ≡ place_after self.old.at (length body.items)) }
+        ensures fault { IfErr result (BodyFault head.now (input self.old (S.left source.old)) (S.faults source.old) (S.faults source.new)) }
+        ensures lost { OnErr result (ConsumesSome (input self.old (S.left source.old)) (input self.new (S.left source.new))) }
+        ensures later { S.faults source.old ≤ S.faults source.new }
+    {
+        let at = head.at;
+        let wanted = match head.body {
+            BodyLength::Fixed(wanted) => wanted,
+            BodyLength::Chunked => return Err(WireError::BadLength { at }),
+        };
+        if wanted > MAX_BODY {
+            return Err(WireError::BodyTooLong { at });
+        }
+        match take_body(alloc, &mut self.buffer, source, wanted as usize) {
+            Ok(body) => {
+                self.at = self.at.saturating_add(wanted);
+                Ok(body)
+            }
+            Err(NoBody::Cut(got)) => Err(WireError::CutBody {
+                at,
+                got: got as u64,
+                wanted,
+            }),
+            Err(NoBody::Fault) => Err(WireError::ReadFault),
+            Err(NoBody::NoMemory) => Err(WireError::NoMemory),
+        }
     }
 
     // The head at the front of pending bytes, which are some.
