@@ -4,4 +4,5 @@ pub mod HeadFacts
 pub mod LengthFacts
 pub mod MakeFacts
 pub mod Ranges
+pub mod ResponseFacts
 pub mod TakeFacts

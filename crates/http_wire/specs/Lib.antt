@@ -3,4 +3,5 @@ pub mod Fields
 pub mod Heads
 pub mod Lengths
 pub mod Reader
+pub mod Responses
 pub mod Taking

@@ -14,12 +14,14 @@ mod head_text;
 mod length;
 mod make;
 mod reader;
+mod response;
 
 pub use error::WireError;
 pub use fields::Fields;
 pub use head::{BodyLength, Head};
 pub use head_text::HeadText;
 pub use reader::HttpReader;
+pub use response::{write_continue, write_response};
 
 /// The longest head, in bytes, with the empty lines before it: this project's own limit.
 pub const MAX_HEAD: usize = 16384;
