@@ -6,3 +6,4 @@ pub mod MakeFacts
 pub mod Ranges
 pub mod ResponseFacts
 pub mod TakeFacts
+pub mod Unique

@@ -11,6 +11,7 @@ mod fields;
 mod find;
 mod head;
 mod head_text;
+pub mod laws;
 mod length;
 mod make;
 mod reader;
