@@ -13,7 +13,7 @@ use Rattle.httparse.specs.Spans.{IsRequestAt, IsRequestWithin, RequestOverflows,
 use Rattle.http_wire.specs.Heads.{BeginsWith, HasNoHead, IsFoundAt, LacksHead}
 
 -- a text that is cut after its first part: the part begins as the text does
-front : (a b c d : List ℕ) → a ++ b ≡ c ++ d → length c ≤ length a → (r : List ℕ) × (a ≡ c ++ r)
+pub front : (a b c d : List ℕ) → a ++ b ≡ c ++ d → length c ≤ length a → (r : List ℕ) × (a ≡ c ++ r)
 front a b [] d e h = (a, refl)
 front [] b (y ∷ c) d e h = absurd (omega arith)
 front (x ∷ a) b (y ∷ c) d e h =
@@ -42,6 +42,10 @@ no_head-end buf none h rest b = none h rest (b.reads.0, sym (append-nil buf) ∙
 nonempty : (a b : List ℕ) → a ≢ [] → a ++ b ≢ []
 nonempty [] b some e = some refl
 nonempty (x ∷ a) b some e = cc
+
+pub nothing : (a b : List ℕ) → a ++ b ≡ [] → a ≡ []
+nothing [] b e = refl
+nothing (x ∷ a) b e = cc
 
 -- the front, what is pending behind it, and what is left
 whole : (pending left : List ℕ) → take 16384 pending ++ (drop 16384 pending ++ left) ≡ pending ++ left
@@ -110,3 +114,12 @@ names_are_text buf (x ∷ xs) (f ∷ fs) e all =
     let token : IsToken f.name = (All-head IsField f fs all).name in
     All-cons (IsNameText buf) x xs (subst IsUtf8 (sym (ap (λ (p : List ℕ × List ℕ). p.0) first)) (IsUtf8-from_token f.name token))
     (names_are_text buf xs fs rest (All-tail IsField f fs all))
+
+-- what is left of the input after a piece became pending
+pub kept-more : (start : Option (List ℕ)) (pending piece new : List ℕ) (left after : Option (List ℕ)) → Keeps start (prepend_known pending left) → Consumes left after piece → new ≡ pending ++ piece
+    → Keeps start (prepend_known new after)
+kept-more None pending piece new left after kept gone e = tt
+kept-more (Some text) pending piece new None after kept gone e = absurd kept
+kept-more (Some text) pending piece new (Some left) None kept gone e = absurd gone
+kept-more (Some text) pending piece new (Some left) (Some rest) kept gone e =
+    ap (λ l. l ++ rest) e ∙ append_assoc pending piece rest ∙ ap (λ l. pending ++ l) (sym gone) ∙ kept

@@ -1,7 +1,7 @@
 -- Ranges of a buffer.
 use Rattle.std.proofs.Common.{◌≡◌, ◌≤◌, ◌<◌, ◌+◌, ◌-◌, ◌∙◌, ℕ, zero, suc, min, List, [], ◌∷◌, ◌++◌, length, take, drop, get_or, refl, sym, ap, subst, arith, length-take, length-append, length-drop, add_comm, add-zero, append-nil}
 use Rattle.std.specs.Prelude.{slice_range, slice_set}
-use Rattle.std.proofs.lemmas.List.{drop-take, drop-drop, drop-append-le, take-append-le, take_more, take_more_set, get_or-drop, drop-set-lt}
+use Rattle.std.proofs.lemmas.List.{drop-take, drop-drop, drop-append-le, take_all, take-append-le, take_more, take_more_set, get_or-drop, drop-set-lt}
 use Rattle.std.proofs.Math.Seq.{take-append-add}
 use Rattle.std.proofs.Math.ListN.{set}
 
@@ -57,3 +57,7 @@ unmoved old new i y rest =
 -- what lies in front of other bytes is as it was
 pub kept : (xs rest : List ℕ) (a b : ℕ) → a ≤ b → b ≤ length xs → slice_range (take b xs ++ rest) a b ≡ slice_range xs a b
 kept xs rest a b h k = ap (slice_range (take b xs ++ rest) a) (sym (add-zero b)) ∙ grown xs rest a b 0 h k ∙ append-nil (slice_range xs a b)
+
+-- the rest of the bytes, as a slice has it
+pub rest : (xs : List ℕ) (n : ℕ) → take (length xs - n) (drop n xs) ≡ drop n xs
+rest xs n = take_all (length xs - n) (drop n xs) (simp length-drop (omega arith))
