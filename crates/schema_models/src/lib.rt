@@ -24,3 +24,8 @@ pub use names::is_name;
 pub use role::Role;
 pub use shape::Shape;
 pub use shape_error::ShapeError;
+
+#[cfg(test)]
+mod fold_tests;
+#[cfg(test)]
+mod tests;
