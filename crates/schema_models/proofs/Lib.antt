@@ -3,4 +3,6 @@ mod FaultLemmas
 mod FoldLemmas
 mod Lists
 mod MergeLemmas
+pub mod RowLengths
 pub mod RowMerges
+pub mod RowsStay

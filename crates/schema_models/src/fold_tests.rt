@@ -1,5 +1,5 @@
 // Tables of folds.
-use crate::{ColumnDef, Model, Role, Shape, fold, laws};
+use crate::{ColumnDef, Model, Role, Shape, fold, is_of_shape, laws};
 use dl_values::{AggKind, Cell, ColType, Name, NoMemory, Row, Rows, compare_slices};
 use std::alloc::Global;
 use std::cmp::Ordering;
@@ -135,6 +135,9 @@ fn a_shape_gives_what_it_was_made_of(rt: HostRuntime) -> Result<(), Fail> {
     assert_eq!(rt; shape.columns().len(), 2);
     let value = Name::new(alloc, b"v")?;
     assert_eq!(rt; shape.position(&value), Some(1));
+    assert!(rt; is_of_shape(&shape, &[Cell::Int(1), Cell::Null]));
+    assert!(rt; !is_of_shape(&shape, &[Cell::Int(1), Cell::Day(2024_02_29)]));
+    assert!(rt; !is_of_shape(&shape, &[Cell::Int(1)]));
     Ok(())
 }
 
@@ -145,4 +148,5 @@ fn each_law_may_be_called() {
     laws::folds_are_determined();
     laws::stable_sorting_keeps_the_fold();
     laws::folds_and_tests_of_keys_change_places();
+    laws::rows_of_a_shape_stay_so();
 }
