@@ -1,11 +1,13 @@
 //! Laws of the fold by the model of a shape: each function does nothing, and its contract is the law.
 ghost use Rattle.std.specs.Prelude.{◌≡◌, ◌++◌, Bool, List};
-ghost use Rattle.std.specs.List.{filter, flat_map};
+ghost use Rattle.std.specs.List.{AllByRecursion, filter, flat_map};
 ghost use Rattle.std.specs.List.Sorted.{IsStableByKey};
 ghost use Rattle.dl_values.specs.Order.{row_cmp};
 ghost use Rattle.dl_values.specs.declared.cell.Cell.{Cell};
 ghost use Rattle.fold_laws.specs.Fold.{Ascends, IsFolding, IsMerging, Rises, has_key};
 ghost use Rattle.schema_models.specs.Folds.{fold_of, gathered, key_of, merged_row};
+ghost use Rattle.schema_models.specs.RowRules.{IsOfShape};
+ghost use Rattle.schema_models.specs.ShapeRules.{IsShape};
 ghost use Rattle.schema_models.specs.ShapeView.{ShapeView};
 ghost use Rattle.schema_models.specs.declared.model.Model.TheVariants as model;
 
@@ -42,4 +44,11 @@ pub fn stable_sorting_keeps_the_fold()
 /// The fold of the rows whose keys pass a test is what of the fold passes it.
 pub fn folds_and_tests_of_keys_change_places()
     ensures { (s : ShapeView) (test : List Cell → Bool) (rows : List (List Cell)) → fold_of s (filter (λ r. test (key_of s r)) rows) ≡ filter (λ r. test (key_of s r)) (fold_of s rows) }
+{}
+
+/// Rows of a shape merge, and fold, to rows of the shape: the sum of a BIGINT column is one of 64 bits, and all other
+/// merges choose one of the cells.
+pub fn rows_of_a_shape_stay_so()
+    ensures merged { (s : ShapeView) → IsShape s → (old new : List Cell) → IsOfShape s old → IsOfShape s new → IsOfShape s (merged_row s.columns old new) }
+    ensures folded { (s : ShapeView) → IsShape s → (rows : List (List Cell)) → AllByRecursion (IsOfShape s) rows → AllByRecursion (IsOfShape s) (fold_of s rows) }
 {}

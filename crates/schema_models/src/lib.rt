@@ -12,6 +12,7 @@ mod merges;
 mod model;
 mod names;
 mod role;
+mod row_test;
 mod shape;
 mod shape_error;
 
@@ -22,5 +23,11 @@ pub use merges::{merge_by_role, merge_rows};
 pub use model::Model;
 pub use names::is_name;
 pub use role::Role;
+pub use row_test::is_of_shape;
 pub use shape::Shape;
 pub use shape_error::ShapeError;
+
+#[cfg(test)]
+mod fold_tests;
+#[cfg(test)]
+mod tests;
