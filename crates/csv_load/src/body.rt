@@ -3,11 +3,12 @@ ghost use Rattle.std.specs.Prelude.{◌≡◌, ◌<◌, ◌≤◌, IfOk, OnOk, I
 ghost use Rattle.csv_load.specs.Body.{body, is_inside, records_by};
 ghost use Rattle.csv_load.specs.Refusal.{Explains, max_records};
 
-use crate::parsed::{count, parsed_none};
+use crate::parsed::{count_filtered, count_row, parsed_none};
 use crate::records::Records;
 use crate::row::read_row;
 use crate::{BodyFault, Inside, Options, Parsed};
 use csv::ByteRecord;
+use dl_values::Row;
 use schema_models::Shape;
 use std::alloc::Global;
 
@@ -29,13 +30,25 @@ pub fn read_body<I: Inside>(
 {
     let mut records = Records::of(alloc, options.separator, bytes);
     let mut fields = ByteRecord::new(alloc);
+    let mut row = Row::new(alloc);
     let mut parsed = parsed_none(alloc);
     for _ in 0..MAX_RECORDS {
         if !records.read(&mut fields)? {
             return Ok(parsed);
         }
-        let row = read_row(alloc, shape.columns(), inside, options.strict, &fields)?;
-        count(&mut parsed, row)?;
+        if read_row(
+            alloc,
+            shape.columns(),
+            inside,
+            options.strict,
+            &fields,
+            &mut row,
+        )? {
+            count_row(&mut parsed, &mut row)?;
+        } else {
+            count_filtered(&mut parsed);
+            row = Row::new(alloc);
+        }
     }
     if records.read(&mut fields)? {
         return Err(BodyFault::TooManyRows { limit: MAX_RECORDS });
