@@ -1,0 +1,6 @@
+mod CellTypeLemmas
+mod FaultLemmas
+mod FoldLemmas
+mod Lists
+mod MergeLemmas
+pub mod RowMerges

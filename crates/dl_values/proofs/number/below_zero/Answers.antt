@@ -1,5 +1,5 @@
-use Rattle.std.proofs.Common.{◌∙◌, ap, sym, subst, Some, ◌≡◌, ℕ, pos}
-use Rattle.dl_values.specs.Read.{minus, signed_number}
+use Rattle.std.proofs.Common.{◌∙◌, ap, sym, Some}
+use Rattle.dl_values.specs.Read.{minus}
 use Rattle.dl_values.proofs.NumberLemmas.{minus_is, minus_none, stored_minus}
 use Rattle.dl_values.proofs.number.below_zero.Goals as goal
 

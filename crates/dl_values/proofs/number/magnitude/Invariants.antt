@@ -1,4 +1,3 @@
-use Rattle.std.proofs.Common.{◌≡◌, ◌≤◌}
 use Rattle.dl_values.proofs.NumberLemmas.{IsReadTo}
 use Rattle.dl_values.proofs.number.magnitude.Given as goal
 

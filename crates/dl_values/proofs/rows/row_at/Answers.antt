@@ -1,5 +1,5 @@
-use Rattle.std.proofs.Common.{◌∙◌, ◌≤◌, ap, drop, take, length, subst, sym}
-use Rattle.dl_values.proofs.CutLemmas.{end_within, start_within, row_is, length_front}
+use Rattle.std.proofs.Common.{◌∙◌}
+use Rattle.dl_values.proofs.CutLemmas.{end_within, row_is, length_front}
 use Rattle.dl_values.proofs.rows.row_at.Goals as goal
 
 pub split_at-requires : goal.split_at-requires

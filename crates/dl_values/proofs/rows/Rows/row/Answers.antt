@@ -1,4 +1,3 @@
-use Rattle.std.proofs.Common.{◌∙◌, ◌<◌, ap, sym, length, subst, arith}
 use Rattle.dl_values.proofs.CutLemmas.{length-cut}
 use Rattle.dl_values.proofs.rows.Rows.row.Goals as goal
 
