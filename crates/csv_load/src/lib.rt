@@ -18,3 +18,6 @@ pub use inside::Inside;
 pub use limit::fails;
 pub use options::{OptionError, Options};
 pub use parsed::Parsed;
+
+#[cfg(test)]
+mod tests;
