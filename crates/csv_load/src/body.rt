@@ -15,8 +15,10 @@ use std::alloc::Global;
 /// How many records a body has at most (this project's own).
 pub const MAX_RECORDS: u64 = 1_000_000;
 
-/// The rows of a body and what is counted. A record is filtered where it has not one field for each column, where a
-/// field gives no cell, or where its row lies not inside.
+/// The rows of a body and what is counted (Apache Doris documentation, "Stream Load"; without quoting). Lines end by LF,
+/// CRLF or CR, and empty ones are no records. A record is filtered where it has not one field for each column, where a
+/// field gives its column no cell, or where its row does not lie inside. Memory stays within a small multiple of the body
+/// and its cells: no list of records is kept.
 pub fn read_body<I: Inside>(
     alloc: Global,
     shape: &Shape,
@@ -47,9 +49,11 @@ pub fn read_body<I: Inside>(
             count_row(&mut parsed, &mut row)?;
         } else {
             count_filtered(&mut parsed);
+            // It may hold the cells before the one that was missing.
             row = Row::new(alloc);
         }
     }
+    // A body of exactly the limit passes, so one more record is looked for.
     if records.read(&mut fields)? {
         return Err(BodyFault::TooManyRows { limit: MAX_RECORDS });
     }
