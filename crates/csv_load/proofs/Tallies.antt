@@ -61,3 +61,7 @@ total-length row_of rs p e = ap (λ q. q.total) e
 pub filtered-most : (row_of : List (List ℕ) → Option (List Cell)) (rs : List (List (List ℕ))) (p : Parsed) → p ≡ tally row_of rs → p.filtered ≤ p.total
 unfolding tally
 filtered-most row_of rs p e = rw e (count_by-le-length (λ x. is_none (row_of x)) rs)
+
+-- where no record is left, all are counted
+pub tally-all : (row_of : List (List ℕ) → Option (List Cell)) (all seen left : List (List (List ℕ))) (p : Parsed) → all ≡ seen ++ left → left ≡ [] → p ≡ tally row_of seen → p ≡ tally row_of all
+tally-all row_of all seen left p e n h = h ∙ ap (tally row_of) (sym (e ∙ ap (λ l. seen ++ l) n ∙ append-nil seen))

@@ -1,4 +1,5 @@
--- What the words of a separator and of a ratio stand for.
+-- What the texts of a separator and of a ratio stand for (Apache Doris documentation, "Stream Load": `column_separator`,
+-- `max_filter_ratio`; which bytes and digits are taken is this project's own).
 use Rattle.std.specs.Prelude.{ℕ, ◌+◌, ◌*◌, ◌-◌, ◌^◌, ◌==◌, ◌&&◌, ◌||◌, not, nat_lt, nat_le, List, [], ◌∷◌, Bool, Option, Some, None, if◌then◌else◌, length}
 use Rattle.std.specs.Option.{option_and_then}
 use Rattle.std.specs.Char.{digit_value}
@@ -52,7 +53,7 @@ ratio_of [] = None
 ratio_of (b ∷ rest) =
     if (b == 48) || (b == 49) then option_and_then (λ part. at_most_one ((b - 48) * 10000 + part)) (fraction_of rest) else None
 
--- nothing is filtered where none is given
+-- without one, nothing may be filtered
 abbrev pub ratio_or_none : Option (List ℕ) → Option ℕ
 ratio_or_none None = Some 0
 ratio_or_none (Some text) = ratio_of text

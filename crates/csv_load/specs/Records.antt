@@ -1,4 +1,5 @@
--- The records of a body: its lines that are not empty, each cut into fields.
+-- The records of a body: its lines that are not empty, each cut into fields (this project's own: no quoting, and a CR
+-- alone ends a line too).
 use Rattle.std.specs.Prelude.{ℕ, ◌==◌, ◌||◌, List, [], ◌∷◌, Bool, true, false, if◌then◌else◌, map, take, drop}
 use Rattle.std.specs.List.{filter, slice_split}
 use Rattle.std.specs.Str.{bytes_eq}

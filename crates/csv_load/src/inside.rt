@@ -12,7 +12,7 @@ pub trait Inside {
 
     /// Whether the row lies inside.
     fn holds(&self, row: &Row) -> bool
-        ensures { result ≡ inside self.now row.now };
+        ensures inside { result ≡ inside self.now row.now };
 }
 
 /// Holds every row.

@@ -1,5 +1,5 @@
 // What a body gives.
-ghost use Rattle.std.specs.Prelude.{◌≡◌, ◌+◌, ◌<◌, ◌≤◌, ◌^◌, OnOk};
+ghost use Rattle.std.specs.Prelude.{◌≡◌, ◌+◌, ◌<◌, ◌≤◌, ◌^◌, OnOk, Some, None, []};
 ghost use Rattle.csv_load.specs.Counting.{nothing, counted};
 
 use dl_values::{NoMemory, Row, Rows};
@@ -30,19 +30,24 @@ pub(crate) fn parsed_none(alloc: Global) -> Parsed
     }
 }
 
-// Counts one more record, with its row if it gives one.
-pub(crate) fn count(parsed: &mut Parsed, row: Option<Row>) -> Result<(), NoMemory>
-    requires room { parsed.old.total + 1 < 2 ^ 64 }
-    requires fewer { parsed.old.filtered ≤ parsed.old.total }
-    ensures { OnOk result (parsed.new ≡ counted parsed.old row) }
+// Counts a record that gives this row, and takes the row's cells.
+pub(crate) fn count_row(parsed: &mut Parsed, row: &mut Row) -> Result<(), NoMemory>
+    requires { parsed.old.total + 1 < 2 ^ 64 }
+    ensures counted { OnOk result (parsed.new ≡ counted parsed.old (Some row.old)) }
+    ensures emptied { OnOk result (row.new ≡ []) }
 {
-    match row {
-        Some(row) => parsed.rows.push(row)?,
-        None => {
-            parsed.filtered += 1;
-            parsed.first_bad = parsed.first_bad.or(Some(parsed.total + 1));
-        }
-    }
+    parsed.rows.append(row)?;
     parsed.total += 1;
     Ok(())
+}
+
+// Counts a record that gives no row.
+pub(crate) fn count_filtered(parsed: &mut Parsed)
+    requires room { parsed.old.total + 1 < 2 ^ 64 }
+    requires fewer { parsed.old.filtered ≤ parsed.old.total }
+    ensures { parsed.new ≡ counted parsed.old None }
+{
+    parsed.total += 1;
+    parsed.filtered += 1;
+    parsed.first_bad = parsed.first_bad.or(Some(parsed.total));
 }

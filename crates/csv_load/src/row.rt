@@ -1,5 +1,5 @@
 // The row that a record gives.
-ghost use Rattle.std.specs.Prelude.{◌≡◌, IfOk, option_copied};
+ghost use Rattle.std.specs.Prelude.{◌≡◌, IfOk, Some, None, option_copied, if◌then◌else◌, []};
 ghost use Rattle.csv.specs.Records.{fields_of};
 ghost use Rattle.csv_load.specs.Body.{null_if, cell_of, cells_of, is_inside, only_inside, row_of};
 
@@ -35,29 +35,31 @@ fn read_cell(
     }
 }
 
-// The cells of a record that has one field for each column and gives each a cell.
+// Adds the cells of a record to an empty row; false where the record has not one field for each column, or gives a
+// column no cell.
 fn read_cells(
     alloc: Global,
     strict: bool,
     columns: &[ColumnDef],
     fields: &ByteRecord,
-) -> Result<Option<Row>, NoMemory>
-    ensures { IfOk result (λ row. row ≡ cells_of strict columns.now (fields_of fields.now)) }
+    row: &mut Row,
+) -> Result<bool, NoMemory>
+    requires { row.old ≡ [] }
+    ensures { IfOk result (λ whole. cells_of strict columns.now (fields_of fields.now) ≡ (if whole then Some row.new else None)) }
 {
     if fields.len() != columns.len() {
-        return Ok(None);
+        return Ok(false);
     }
-    let mut row = Row::with_room(alloc, columns.len())?;
     for (i, column) in columns.iter().enumerate() {
         match fields.get(i) {
-            None => return Ok(None),
+            None => return Ok(false),
             Some(field) => match read_cell(alloc, strict, column, field)? {
-                None => return Ok(None),
+                None => return Ok(false),
                 Some(cell) => row.push(cell)?,
             },
         }
     }
-    Ok(Some(row))
+    Ok(true)
 }
 
 // Whether a row lies inside, where there is something to lie inside of.
@@ -70,24 +72,20 @@ fn lies_inside<I: Inside>(inside: Option<&I>, row: &Row) -> bool
     }
 }
 
-/// The row that a record gives, if it gives one.
+/// Puts the row that a record gives into an empty row; false where the record gives none.
 pub(crate) fn read_row<I: Inside>(
     alloc: Global,
     columns: &[ColumnDef],
     inside: Option<&I>,
     strict: bool,
     fields: &ByteRecord,
-) -> Result<Option<Row>, NoMemory>
-    ensures { IfOk result (λ row. row ≡ row_of (is_inside I.inside (option_copied inside.entry)) strict columns.now (fields_of fields.now)) }
+    row: &mut Row,
+) -> Result<bool, NoMemory>
+    requires { row.old ≡ [] }
+    ensures { IfOk result (λ gives. row_of (is_inside I.inside (option_copied inside.entry)) strict columns.now (fields_of fields.now) ≡ (if gives then Some row.new else None)) }
 {
-    match read_cells(alloc, strict, columns, fields)? {
-        None => Ok(None),
-        Some(row) => {
-            if lies_inside(inside, &row) {
-                Ok(Some(row))
-            } else {
-                Ok(None)
-            }
-        }
+    if !read_cells(alloc, strict, columns, fields, row)? {
+        return Ok(false);
     }
+    Ok(lies_inside(inside, row))
 }

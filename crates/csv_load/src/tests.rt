@@ -37,10 +37,7 @@ fn column(
 fn pairs(alloc: Global, nullable: bool) -> Result<Shape, Fail> {
     let key = column(alloc, b"k", ColType::Int, nullable, Role::Key)?;
     let value = column(alloc, b"v", ColType::BigInt, nullable, Role::Plain)?;
-    Ok(Shape::build(
-        Model::Duplicate,
-        vec![in alloc; key, value]?,
-    )?)
+    Ok(Shape::build(Model::Duplicate, vec![in alloc; key, value]?)?)
 }
 
 // The text of rows: a comma behind each cell, and a semicolon behind each row.
@@ -264,7 +261,10 @@ fn ratios(rt: HostRuntime) {
             }
         }
     }
-    assert_eq!(rt; Options::build(Some(b""), Some(b""), true).err(), Some(OptionError::BadSeparator));
+    assert_eq!(rt;
+        Options::build(Some(b""), Some(b""), true).err(),
+        Some(OptionError::BadSeparator)
+    );
 }
 
 #[test]

@@ -1,4 +1,4 @@
-use Rattle.std.proofs.Common.{◌≡◌, ◌++◌, ℕ, List, length, option_copied}
+use Rattle.std.proofs.Common.{◌≡◌, ◌++◌, [], ℕ, List, length, option_copied}
 use Rattle.csv_load.specs.Body.{is_inside, records_by, row_of, tally}
 use Rattle.csv_load.proofs.body.read_body.Given as goal
 
@@ -8,3 +8,4 @@ invariant-loop g l =
     × (records_by l.options l.fn.bytes ≡ seen ++ l.records)
     × (l.parsed ≡ tally (row_of (is_inside g.I.Inside.inside (option_copied l.inside)) l.options.strict l.shape.columns) seen)
     × (length seen ≡ l.counter)
+    × (l.row ≡ [])
