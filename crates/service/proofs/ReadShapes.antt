@@ -56,25 +56,29 @@ refused words e some h = go (length (first words) == 0) refl
   where
     plain : (d : ℕ) → place_of e ≡ 0 + d → d ≡ place_of e
     plain d q = omega arith
+
     from : (n : ℕ) → n ≡ 0 → bad_word 3 [] words ≡ Some (3 + length (first words)) → length (first words) ≡ n → (place_of (fault.NoKey 0) ≤ 64) × (bad_word 3 [] words ≡ Some (3 + place_of (fault.NoKey 0)))
     from n z b l = (omega arith, b ∙ ap (λ m. Some (3 + m)) (l ∙ z))
+
     moved : (d : ShapeError) → d ≡ e → (place_of d ≤ 64) × (bad_word 3 [] words ≡ Some (3 + place_of d)) → (place_of e ≤ 64) × (bad_word 3 [] words ≡ Some (3 + place_of e))
     moved d q r = (omega (arith, ap place_of q, r.0), r.1 ∙ ap (λ x. Some (3 + place_of x)) q)
+
     go : (b : Bool) → (length (first words) == 0) ≡ b → (place_of e ≤ 64) × (bad_word 3 [] words ≡ Some (3 + place_of e))
     go true z =
-      let zero_long : length (first words) ≡ 0 = eqb-true (length (first words)) 0 z in
-      let is : Some (fault.NoKey 0) ≡ Some e = sym (ap (λ b. first_of (refuse_if b (fault.NoKey 0) ∷ faults_after model.Aggregate [] (first words))) z) ∙ sym (all_faults words) ∙ h in
-      moved (fault.NoKey 0) (some_same (fault.NoKey 0) e is) (from 0 refl ((whole_scan words).short (empty (first words) zero_long) (omega arith)) zero_long)
+        let zero_long : length (first words) ≡ 0 = eqb-true (length (first words)) 0 z in
+        let is : Some (fault.NoKey 0) ≡ Some e = sym (ap (λ b. first_of (refuse_if b (fault.NoKey 0) ∷ faults_after model.Aggregate [] (first words))) z) ∙ sym (all_faults words) ∙ h in
+        moved (fault.NoKey 0) (some_same (fault.NoKey 0) e is) (from 0 refl ((whole_scan words).short (empty (first words) zero_long) (omega arith)) zero_long)
     go false z =
-      let is : first_of (faults_after model.Aggregate [] (first words)) ≡ Some e = sym (ap (λ b. first_of (refuse_if b (fault.NoKey 0) ∷ faults_after model.Aggregate [] (first words))) z) ∙ sym (all_faults words) ∙ h in
-      let r : (d : ℕ) × (place_of e ≡ 0 + d) × (d ≤ 64) × (bad_word 3 [] words ≡ Some (3 + d)) = (whole_scan words).refused e is in
-      (omega (arith, r.1, r.2), r.3 ∙ ap (λ d. Some (3 + d)) (plain r.0 r.1))
+        let is : first_of (faults_after model.Aggregate [] (first words)) ≡ Some e = sym (ap (λ b. first_of (refuse_if b (fault.NoKey 0) ∷ faults_after model.Aggregate [] (first words))) z) ∙ sym (all_faults words) ∙ h in
+        let r : (d : ℕ) × (place_of e ≡ 0 + d) × (d ≤ 64) × (bad_word 3 [] words ≡ Some (3 + d)) = (whole_scan words).refused e is in
+        (omega (arith, r.1, r.2), r.3 ∙ ap (λ d. Some (3 + d)) (plain r.0 r.1))
 
 none_first : (words : List (List ℕ)) → shape_fault model.Aggregate (first words) ≡ None → first_of (faults_after model.Aggregate [] (first words)) ≡ None
 none_first words h = go (length (first words) == 0) refl
   where
     clash : Some (fault.NoKey 0) ≡ None → ⊥
     clash q = cc
+
     go : (b : Bool) → (length (first words) == 0) ≡ b → first_of (faults_after model.Aggregate [] (first words)) ≡ None
     go true z = absurd (clash (sym (ap (λ b. first_of (refuse_if b (fault.NoKey 0) ∷ faults_after model.Aggregate [] (first words))) z) ∙ sym (all_faults words) ∙ h))
     go false z = sym (ap (λ b. first_of (refuse_if b (fault.NoKey 0) ∷ faults_after model.Aggregate [] (first words))) z) ∙ sym (all_faults words) ∙ h
@@ -108,13 +112,13 @@ front bytes words n e = ap columns_of (sym (take-map bytes n words) ∙ first_of
 
 pub refused_with : (words : List (List ℕ)) (columns : List ColumnDef) (e : ShapeError) (place : ℕ) → 0 < length words → columns ≡ first words → shape_fault model.Aggregate columns ≡ Some e → place ≡ place_of e → (place ≤ 64) × (bad_word 3 [] words ≡ Some (3 + place))
 refused_with words columns e place some same h p =
-  let r : (place_of e ≤ 64) × (bad_word 3 [] words ≡ Some (3 + place_of e)) = refused words e some (ap (shape_fault model.Aggregate) (sym same) ∙ h) in
-  (omega (arith, r.0), r.1 ∙ ap (λ n. Some (3 + n)) (sym p))
+    let r : (place_of e ≤ 64) × (bad_word 3 [] words ≡ Some (3 + place_of e)) = refused words e some (ap (shape_fault model.Aggregate) (sym same) ∙ h) in
+    (omega (arith, r.0), r.1 ∙ ap (λ n. Some (3 + n)) (sym p))
 
 pub stopped_with : (words : List (List ℕ)) (columns : List ColumnDef) (read count : ℕ) → columns ≡ first words → shape_fault model.Aggregate columns ≡ None → read ≡ length columns → count ≡ length words → read < count → bad_word 3 [] words ≡ Some (3 + read)
 stopped_with words columns read count same h r e l =
-  let n : read ≡ length (first words) = r ∙ ap length same in
-  stopped words (ap (shape_fault model.Aggregate) (sym same) ∙ h) (omega arith) ∙ ap (λ n. Some (3 + n)) (sym n)
+    let n : read ≡ length (first words) = r ∙ ap length same in
+    stopped words (ap (shape_fault model.Aggregate) (sym same) ∙ h) (omega arith) ∙ ap (λ n. Some (3 + n)) (sym n)
 
 pub good_with : (words : List (List ℕ)) (columns : List ColumnDef) (read count : ℕ) → columns ≡ first words → shape_fault model.Aggregate columns ≡ None → read ≡ length columns → count ≡ length words → count ≤ read → bad_word 3 [] words ≡ None
 good_with words columns read count same h r e l = let n : read ≡ length (first words) = r ∙ ap length same in good words (ap (shape_fault model.Aggregate) (sym same) ∙ h) (omega arith)
@@ -124,9 +128,9 @@ make m cs = record { model = m; columns = cs }
 
 pub shape_with : (words : List (List ℕ)) (columns : List ColumnDef) (read count : ℕ) (shape : ShapeView) → columns ≡ first words → read ≡ length columns → count ≡ length words → count ≤ read → shape.model ≡ model.Aggregate → shape.columns ≡ columns → shape ≡ shape_of words
 shape_with words columns read count shape same r e l m c =
-  let n : read ≡ length (first words) = r ∙ ap length same in
-  let k : length words ≤ length (first words) = omega arith in
-  shape_is shape model.Aggregate (columns_of words) m (c ∙ same ∙ all_columns words k)
+    let n : read ≡ length (first words) = r ∙ ap length same in
+    let k : length words ≤ length (first words) = omega arith in
+    shape_is shape model.Aggregate (columns_of words) m (c ∙ same ∙ all_columns words k)
   where
     shape_is : (s : ShapeView) (m : Model) (cs : List ColumnDef) → s.model ≡ m → s.columns ≡ cs → s ≡ record { model = m; columns = cs }
     shape_is s m cs a b = ap₂ (λ (n : Model) (ds : List ColumnDef). make n ds) a b

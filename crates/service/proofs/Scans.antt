@@ -40,8 +40,8 @@ names_more n false e xs p rest = record { place = rest.place }
 
 column_names : (before : List ColumnDef) (c : ColumnDef) → Names (length before) (column_faults model.Aggregate before c)
 column_names before c =
-  let n : ℕ = length before in
-  names_more n _ (fault.BadName n) _ refl (names_more n _ (fault.DoubleName n) _ refl (names_more n _ (fault.BadType n) _ refl (names_more n _ (fault.NoKey n) _ refl
+    let n : ℕ = length before in
+    names_more n _ (fault.BadName n) _ refl (names_more n _ (fault.DoubleName n) _ refl (names_more n _ (fault.BadType n) _ refl (names_more n _ (fault.NoKey n) _ refl
     (names_more n _ (fault.KeyAfterValue n) _ refl (names_more n _ (fault.BadAgg n) _ refl (names_more n _ (fault.BadDefault n) _ refl (names_none n)))))))
 
 -- what reading at most k words finds, the first of which has the number n
@@ -77,6 +77,7 @@ scan_none n before k = record {
     nothing : (k : ℕ) → columns_of (take k []) ≡ []
     nothing zero = columns_none
     nothing (suc k) = columns_none
+
     clash : (e : ShapeError) → None ≡ Some e → ⊥
     clash e h = cc
 
@@ -90,10 +91,13 @@ scan_full n before word words full = record {
   where
     clash : (e : ShapeError) → None ≡ Some e → ⊥
     clash e h = cc
+
     plus_none : {cs : List ColumnDef} → cs ≡ [] → n ≡ n + length cs
     plus_none e = omega (arith, ap length e)
+
     none_left : {m j : ℕ} → m ≡ 0 → suc j ≤ m → ⊥
     none_left e l = omega arith
+
     go : (c : Option ColumnDef) → bad_from n before c (λ c. bad_word (n + 1) (before ++ c ∷ []) words) ≡ Some n
     go None = refl
     go (Some c) = rw (eq-eqb (length before) 64 full) refl
@@ -108,10 +112,13 @@ scan_stops n before word words k e = record {
   where
     nothing : columns_of (word ∷ take k words) ≡ []
     nothing = columns_more word (take k words) ∙ ap (λ c. onto_columns c (columns_of (take k words))) e
+
     clash : (e : ShapeError) → None ≡ Some e → ⊥
     clash e h = cc
+
     plus_none : {cs : List ColumnDef} → cs ≡ [] → n ≡ n + length cs
     plus_none e = omega (arith, ap length e)
+
     none_left : {m j : ℕ} → m ≡ 0 → suc j ≤ m → ⊥
     none_left e l = omega arith
 
@@ -150,31 +157,39 @@ scan_bad n before word words k c f e here = record {
   where
     all : first_of (faults before (columns_of (word ∷ take k words))) ≡ Some f
     all = first_seen before word (take k words) c e ∙ ap (λ o. first_or o (first_of (faults (before ++ c ∷ []) (columns_of (take k words))))) here
+
     plus_none : (m : ℕ) → m ≡ m + 0
     plus_none m = omega arith
 
 scan_good : (n : ℕ) (before : List ColumnDef) (word : List ℕ) (words : List (List ℕ)) (k : ℕ) (c : ColumnDef) → column_of word ≡ Some c → first_of (column_faults model.Aggregate before c) ≡ None → length before < 64 → IsScan (n + 1) (before ++ c ∷ []) words k → IsScan n before (word ∷ words) (suc k)
 scan_good n before word words k c e here small rest = record {
   refused = λ d h. let r : (m : ℕ) × (place_of d ≡ length (before ++ c ∷ []) + m) × (m ≤ k) × (bad_word (n + 1) (before ++ c ∷ []) words ≡ Some (n + 1 + m)) = rest.refused d (sym all ∙ h) in
-    (r.0 + 1, shifted (length before) r.0 (r.1 ∙ ap (λ j. j + r.0) (simp length-append refl)), omega (arith, r.2), next ∙ r.3 ∙ ap Some (turned n r.0));
+      (r.0 + 1, shifted (length before) r.0 (r.1 ∙ ap (λ j. j + r.0) (simp length-append refl)), omega (arith, r.2), next ∙ r.3 ∙ ap Some (turned n r.0));
   short = λ h l. next ∙ rest.short (sym all ∙ h) (fewer (ap length read) l) ∙ ap Some (counted (ap length read));
   whole = λ h l. next ∙ rest.whole (sym all ∙ h) (no_fewer (ap length read) l);
 }
   where
     read : columns_of (word ∷ take k words) ≡ c ∷ columns_of (take k words)
     read = seen word (take k words) c e
+
     all : first_of (faults before (columns_of (word ∷ take k words))) ≡ first_of (faults (before ++ c ∷ []) (columns_of (take k words)))
     all = first_seen before word (take k words) c e ∙ ap (λ o. first_or o (first_of (faults (before ++ c ∷ []) (columns_of (take k words))))) here
+
     next : bad_word n before (word ∷ words) ≡ bad_word (n + 1) (before ++ c ∷ []) words
     next = bad_seen n before word words c e ∙ ap (λ b. cond b (Some n) (bad_word (n + 1) (before ++ c ∷ []) words)) (taken before c small here)
+
     shifted : {p : ℕ} (j m : ℕ) → p ≡ j + 1 + m → p ≡ j + (m + 1)
     shifted j m h = omega arith
+
     turned : (i m : ℕ) → i + 1 + m ≡ i + (m + 1)
     turned i m = omega arith
+
     fewer : {i j m : ℕ} → i ≡ suc j → i < suc m → j < m
     fewer a b = omega arith
+
     no_fewer : {i j m : ℕ} → i ≡ suc j → suc m ≤ i → m ≤ j
     no_fewer a b = omega arith
+
     counted : {i j : ℕ} → i ≡ suc j → n + 1 + j ≡ n + i
     counted a = omega arith
 

@@ -10,7 +10,8 @@ use crate::rows_text::rows_text;
 use csv_load::{BodyFault, Options, read_body};
 use dl_outside::{ReadEnd, Source, read_to_limit};
 use dl_values::{NoMemory, Rows};
-use schema_models::{Shape, fold};
+use row_fold::fold_rows;
+use schema_models::Shape;
 use std::alloc::Global;
 
 /// How many bytes a body has at most (this project's own).
@@ -77,10 +78,10 @@ fn read_rows<S: Source>(alloc: Global, shape: &Shape, source: &mut S) -> Result<
 }
 
 // The text of the fold of rows.
-fn folded_text(alloc: Global, shape: &Shape, rows: &Rows) -> Result<Vec<u8>, NoMemory>
-    ensures { IfOk result (λ text. text.items ≡ text_of_rows (fold_of shape.now rows.now)) }
+fn folded_text(alloc: Global, shape: &Shape, rows: Rows) -> Result<Vec<u8>, NoMemory>
+    ensures { IfOk result (λ text. text.items ≡ text_of_rows (fold_of shape.now rows)) }
 {
-    let folded = fold(alloc, shape, rows)?;
+    let folded = fold_rows(alloc, shape, rows)?;
     rows_text(alloc, &folded)
 }
 
@@ -99,7 +100,7 @@ pub fn folded_input<S: Source>(
     ensures later { S.faults source.old ≤ S.faults source.new }
 {
     match read_rows(alloc, shape, source) {
-        Ok(rows) => match folded_text(alloc, shape, &rows) {
+        Ok(rows) => match folded_text(alloc, shape, rows) {
             Ok(text) => Ok(text),
             Err(_) => Err(Exit::NoMemory),
         },

@@ -7,7 +7,8 @@ use dl_values::NoMemory;
 use itoa::Buffer;
 use std::alloc::Global;
 
-const USAGE: &str = "usage: labelload dryrun MODEL COLUMN... | run [JOURNAL] | serve ADDRESS WORKERS [JOURNAL] | generate NUMBER LOADS\n";
+const USAGE: &str =
+    "usage: labelload dryrun MODEL COLUMN... | run [JOURNAL] | serve ADDRESS WORKERS [JOURNAL] | generate NUMBER LOADS\n";
 
 // Adds a text and a number.
 fn add_field(out: &mut String, text: &str, value: u64) -> Result<(), NoMemory>

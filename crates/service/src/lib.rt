@@ -11,3 +11,6 @@ mod words;
 
 pub use command::run;
 pub use exit::Exit;
+
+#[cfg(test)]
+mod tests;

@@ -21,12 +21,13 @@ fn write_more(cells: &[Cell], out: &mut Vec<u8>) -> Result<(), NoMemory>
 fn write_row(row: &[Cell], out: &mut Vec<u8>) -> Result<(), NoMemory>
     ensures { OnOk result (out.new.items ≡ out.old.items ++ row_text row.now) }
 {
-    let Some((first, rest)) = row.split_first() else {
-        out.push(b'\n')?;
-        return Ok(());
-    };
-    write_cell(first, out)?;
-    write_more(rest, out)
+    match row.split_first() {
+        None => write_more(row, out),
+        Some((first, rest)) => {
+            write_cell(first, out)?;
+            write_more(rest, out)
+        }
+    }
 }
 
 /// The text of rows: each row's cells joined by tabs, and a line feed.

@@ -7,12 +7,12 @@ returns-in-None-clause-rows c = ap (λ p. p.rows) (c.in-Ok-read_body.ensures.par
 
 pub returns-in-None-clause-good : goal.returns-in-None-clause-good
 returns-in-None-clause-good c =
-  few_records c.args.shape.now c.args.body.now _ (subst (λ r. length r ≤ 1000000) (records_is c.in-Ok.options c.args.body.now c.in-Ok.ensures.separator) c.in-Ok-read_body.ensures.within)
+    few_records c.args.shape.now c.args.body.now _ (subst (λ r. length r ≤ 1000000) (records_is c.in-Ok.options c.args.body.now c.in-Ok.ensures.separator) c.in-Ok-read_body.ensures.within)
     (sym (ap (λ p. p.first_bad) (c.in-Ok-read_body.ensures.parsed ∙ parsed_is c.args.shape.now c.in-Ok.options c.args.body.now c.in-Ok.ensures.separator c.in-Ok.ensures.strict)) ∙ c.in-None.is)
 
 pub returns-in-Some-clause-refused : goal.returns-in-Some-clause-refused
 returns-in-Some-clause-refused c =
-  few_records c.args.shape.now c.args.body.now _ (subst (λ r. length r ≤ 1000000) (records_is c.in-Ok.options c.args.body.now c.in-Ok.ensures.separator) c.in-Ok-read_body.ensures.within)
+    few_records c.args.shape.now c.args.body.now _ (subst (λ r. length r ≤ 1000000) (records_is c.in-Ok.options c.args.body.now c.in-Ok.ensures.separator) c.in-Ok-read_body.ensures.within)
     (sym (ap (λ p. p.first_bad) (c.in-Ok-read_body.ensures.parsed ∙ parsed_is c.args.shape.now c.in-Ok.options c.args.body.now c.in-Ok.ensures.separator c.in-Ok.ensures.strict)) ∙ c.in-Some.is)
 
 pub returns-in-Err-TooManyRows-clause-refused : goal.returns-in-Err-TooManyRows-clause-refused
