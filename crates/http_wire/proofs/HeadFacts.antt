@@ -1,6 +1,6 @@
 -- When a reader of heads may give up.
 use Rattle.std.specs.Io.KnownBytes.{Consumes, IsAtEnd, Keeps, prepend_known}
-use Rattle.std.proofs.Common.{◌≡◌, ◌≢◌, ◌≤◌, ◌<◌, min, Option, Some, None, IfSome, subst, map, All, IsUtf8, IsTrue, ℕ, List, [], ◌∷◌, ◌++◌, length, take, drop, refl, sym, ap, ◌∙◌, arith, append_assoc, append-nil, length-append, length-take}
+use Rattle.std.proofs.Common.{◌≡◌, ◌≢◌, ◌≤◌, ◌<◌, Option, Some, None, IfSome, subst, map, All, IsUtf8, IsTrue, ℕ, List, [], ◌∷◌, ◌++◌, length, take, drop, refl, sym, ap, ◌∙◌, arith, append_assoc, append-nil, length-append, length-take}
 use Rattle.std.proofs.lemmas.List.{length-map, take-append-drop, take_all}
 use Rattle.httparse.specs.declared.spans.RequestSpans.{RequestSpans}
 use Rattle.std.proofs.lemmas.Str.{IsUtf8-from_ascii}
@@ -8,9 +8,9 @@ use Rattle.std.proofs.lemmas.Str.Ascii.{IsAscii-from_all}
 use Rattle.std.proofs.lemmas.List.Elements.{All-head, All-tail, All-nil, All-cons, All-weaker}
 use Rattle.std.proofs.lemmas.Bool.Decides.{nat_tests}
 use Rattle.httparse.specs.declared.spans.HeaderSpan.{HeaderSpan}
-use Rattle.httparse.specs.Grammar.{RequestHead, ReadsRequest, print_request, HasNoRequest, Field, IsField, IsToken, is_token_byte}
+use Rattle.httparse.specs.Grammar.{RequestHead, print_request, HasNoRequest, Field, IsField, IsToken, is_token_byte}
 use Rattle.httparse.specs.Spans.{IsRequestAt, IsRequestWithin, RequestOverflows, header_bytes, span_bytes, name_and_value}
-use Rattle.http_wire.specs.Heads.{BeginsWith, HasNoHead, IsFoundAt, LacksHead}
+use Rattle.http_wire.specs.Heads.{HasNoHead, IsFoundAt, LacksHead}
 
 -- a text that is cut after its first part: the part begins as the text does
 pub front : (a b c d : List ℕ) → a ++ b ≡ c ++ d → length c ≤ length a → (r : List ℕ) × (a ≡ c ++ r)

@@ -1,5 +1,6 @@
 pub mod BodyFacts
 pub mod Digits
+pub mod FieldFacts
 pub mod HeadFacts
 pub mod LengthFacts
 pub mod LineFacts

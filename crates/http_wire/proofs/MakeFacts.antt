@@ -1,5 +1,5 @@
 -- A head made of the places of its parts.
-use Rattle.std.proofs.Common.{◌≡◌, ◌≤◌, ◌+◌, ◌-◌, ◌∙◌, ℕ, min, List, [], ◌∷◌, ◌++◌, All, length, map, take, drop, refl, sym, ap, subst, arith}
+use Rattle.std.proofs.Common.{◌≡◌, ◌≤◌, ◌+◌, ◌-◌, ◌∙◌, ℕ, List, [], ◌∷◌, All, map, take, drop, refl, ap, subst, arith}
 use Rattle.std.specs.Prelude.{slice_range}
 use Rattle.std.proofs.lemmas.List.{drop-take}
 use Rattle.std.proofs.lemmas.List.Elements.{All-head, All-tail}
@@ -7,7 +7,7 @@ use Rattle.httparse.specs.declared.spans.HeaderSpan.{HeaderSpan}
 use Rattle.httparse.specs.Grammar.{RequestHead}
 use Rattle.httparse.specs.Spans.{IsHeaderWithin, header_bytes}
 use Rattle.http_wire.specs.declared.head.BodyLength.TheVariants.{Fixed}
-use Rattle.http_wire.specs.Heads.{IsHeadOf, fields_of, head_at}
+use Rattle.http_wire.specs.Heads.{IsHeadOf, fields_of}
 use Rattle.http_wire.specs.Lengths.{HasLength}
 use Rattle.http_wire.proofs.Ranges.{take-take}
 

@@ -1,8 +1,8 @@
 -- A text has one list of requests, and one end.
-use Rattle.std.proofs.Common.{◌≡◌, ◌≢◌, ◌≤◌, ◌<◌, ◌+◌, ◌-◌, ◌∙◌, ◌⊎◌, inl, inr, ℕ, Option, Some, None, List, [], ◌∷◌, ◌++◌, All, length, refl, sym, ap, subst, arith, length-append}
+use Rattle.std.proofs.Common.{◌≡◌, ◌≢◌, ◌-◌, ◌∙◌, inl, inr, ℕ, Option, Some, None, List, [], ◌∷◌, ◌++◌, length, refl, sym, ap, subst, arith, length-append}
 use Rattle.std.proofs.lemmas.List.Elements.{All-head}
 use Rattle.std.specs.Str.Parse.{digits_value}
-use Rattle.httparse.specs.Grammar.{RequestHead, print_blank, print_end, print_request, print_section, print_version}
+use Rattle.httparse.specs.Grammar.{RequestHead, print_blank, print_end, print_section, print_version}
 use Rattle.httparse.proofs.GrammarLemmas.{print_request-append, request_unique}
 use Rattle.http_wire.specs.declared.error.WireError.{WireError}
 use Rattle.http_wire.specs.declared.error.WireError.TheVariants.{BadHead, BadLength, BodyTooLong, CutBody, BadChunk, ReadFault, NoMemory}
@@ -11,7 +11,7 @@ use Rattle.http_wire.specs.declared.head.BodyLength.TheVariants.{Fixed, Chunked}
 use Rattle.http_wire.specs.declared.head.Head.{Head}
 use Rattle.http_wire.specs.Bodies.{IsBodyOf, IsCut, IsTooLong}
 use Rattle.http_wire.specs.Heads.{BeginsWith, TakesHead, fields_of, head_at}
-use Rattle.http_wire.specs.Lengths.{AllWrite, HasBadLength, HasLength, IsLengthText, codings, lengths}
+use Rattle.http_wire.specs.Lengths.{AllWrite, HasBadLength, HasLength, lengths}
 use Rattle.http_wire.specs.Reader.{place_after}
 use Rattle.http_wire.specs.Requests.{Ends, Fails, Request, Requests, TakesBody}
 

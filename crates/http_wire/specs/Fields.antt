@@ -1,5 +1,6 @@
 -- Fields of a head, as pairs of a name and a value (RFC 9112, section 5).
-use Rattle.std.specs.Prelude.{◌≡◌, Bool, List, ℕ, Some, filter, map, slice_get}
+use Rattle.std.specs.Prelude.{◌≡◌, ◌&&◌, Bool, List, ℕ, Some, filter, map, slice_get}
+use Rattle.std.specs.List.{list_any}
 use Rattle.std.specs.Str.{str_eq_ignore_ascii_case}
 
 -- the field at a place has this name and this value
@@ -13,3 +14,11 @@ is_named name field = str_eq_ignore_ascii_case field.0 name
 -- the values of the fields of this name
 abbrev pub values_of : List ℕ → List (List ℕ × List ℕ) → List (List ℕ)
 values_of name fields = map (λ field. field.1) (filter (is_named name) fields)
+
+-- the field has this name and this value, both in any case
+abbrev pub says : List ℕ → List ℕ → List ℕ × List ℕ → Bool
+says name value field = is_named name field && str_eq_ignore_ascii_case field.1 value
+
+-- a field has this name and this value, both in any case
+abbrev pub has_field : List ℕ → List ℕ → List (List ℕ × List ℕ) → Bool
+has_field name value fields = list_any (says name value) fields

@@ -1,4 +1,5 @@
 pub mod Bodies
+pub mod Connections
 pub mod Fields
 pub mod Heads
 pub mod Lengths

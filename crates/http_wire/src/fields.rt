@@ -1,7 +1,8 @@
 // The fields of a head.
 ghost use Rattle.std.specs.Prelude.{◌≡◌, ◌==◌, ◌<◌, All, IfOk, length, map};
+ghost use Rattle.std.specs.Str.{str_eq_ignore_ascii_case};
 ghost use Rattle.httparse.specs.Spans.{IsHeaderWithin, header_bytes};
-ghost use Rattle.http_wire.specs.Fields.{IsFieldAt};
+ghost use Rattle.http_wire.specs.Fields.{IsFieldAt, has_field, says};
 
 use httparse::spans::HeaderSpan;
 use std::alloc::{AllocError, Global};
@@ -65,4 +66,30 @@ impl Fields {
         let span = self.spans[place];
         (span.name.of(&self.head), span.value.of(&self.head))
     }
+
+    /// Whether a field has this name and this value, both in any case.
+    pub fn has(&self, name: &[u8], value: &[u8]) -> bool
+        ensures { result ≡ has_field name.now value.now self.now }
+    {
+        for place in 0..self.len() {
+            let (field_name, field_value) = self.get(place);
+            if says(field_name, field_value, name, value) {
+                return true;
+            }
+        }
+        false
+    }
+}
+
+fn says(field_name: &[u8], field_value: &[u8], name: &[u8], value: &[u8]) -> bool
+    ensures { result ≡ says name.now value.now (field_name.now, field_value.now) }
+{
+    is_same(field_name, name) && is_same(field_value, value)
+}
+
+/// Whether two texts are the same but for the case of ASCII letters.
+pub(crate) fn is_same(text: &[u8], wanted: &[u8]) -> bool
+    ensures { result ≡ str_eq_ignore_ascii_case text.now wanted.now }
+{
+    text.eq_ignore_ascii_case(wanted)
 }

@@ -22,3 +22,30 @@ pub struct Head {
     pub at: u64,
     pub body: BodyLength,
 }
+
+impl Head {
+    ghost use Rattle.std.specs.Prelude.{◌≡◌};
+    ghost use Rattle.http_wire.specs.Connections.{closes, expects_continue};
+
+    /// Whether the connection closes after the response.
+    pub fn closes(&self) -> bool
+        ensures { result ≡ closes self.now }
+    {
+        self.minor == 0 || self.fields.has(b"connection", b"close")
+    }
+
+    /// Whether the client waits for the interim response that `write_continue` writes before it sends the body.
+    pub fn expects_continue(&self) -> bool
+        ensures { result ≡ expects_continue self.now }
+    {
+        self.minor == 1 && self.fields.has(b"expect", b"100-continue") && self.has_bytes()
+    }
+
+    ghost use Rattle.http_wire.specs.Connections.{has_bytes};
+
+    fn has_bytes(&self) -> bool
+        ensures { result ≡ has_bytes self.now.body }
+    {
+        self.body != BodyLength::Fixed(0)
+    }
+}

@@ -1,10 +1,10 @@
 // The length of a body, by the fields of its head.
 ghost use Rattle.std.specs.Prelude.{◌≡◌, ◌++◌, ◌∷◌, ◌↔◌, [], IfSome, IsErr, IsNone, IsTrue, IfOk, List, ℕ};
-ghost use Rattle.std.specs.Str.{str_eq_ignore_ascii_case};
 ghost use Rattle.std.specs.Str.Parse.{digits_value};
 ghost use Rattle.http_wire.specs.Lengths.{HasBadLength, HasFound, HasLength, IsLengthText};
 
 use crate::Fields;
+use crate::fields::is_same;
 
 // The fields give no length.
 #[derive(Clone, Copy)]
@@ -31,10 +31,10 @@ fn with_field(found: Option<u64>, name: &[u8], value: &[u8]) -> Result<Option<u6
     ensures ok { IfOk result (λ next. (before : List (List ℕ × List ℕ)) → HasFound before found → HasFound (before ++ (name.now, value.now) ∷ []) next) }
     ensures err { IsErr result → (before after : List (List ℕ × List ℕ)) → HasFound before found → HasBadLength (before ++ (name.now, value.now) ∷ after) }
 {
-    if is_same_name(name, b"transfer-encoding") {
+    if is_same(name, b"transfer-encoding") {
         return Err(NoLength);
     }
-    if !is_same_name(name, b"content-length") {
+    if !is_same(name, b"content-length") {
         return Ok(found);
     }
     if !is_length_text(value) {
@@ -45,12 +45,6 @@ fn with_field(found: Option<u64>, name: &[u8], value: &[u8]) -> Result<Option<u6
         Some(earlier) if earlier != number => Err(NoLength),
         _ => Ok(Some(number)),
     }
-}
-
-fn is_same_name(name: &[u8], wanted: &[u8]) -> bool
-    ensures { result ≡ str_eq_ignore_ascii_case name.now wanted.now }
-{
-    name.eq_ignore_ascii_case(wanted)
 }
 
 // Whether the value is 1 to 19 digits.

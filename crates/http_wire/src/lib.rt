@@ -16,6 +16,8 @@ mod length;
 mod make;
 mod reader;
 mod response;
+#[cfg(test)]
+mod tests;
 
 pub use error::WireError;
 pub use fields::Fields;

@@ -12,6 +12,9 @@ use itoa::Buffer;
 // More than the longest head of a response has.
 const HEAD_ROOM: usize = 160;
 
+// What ends a head.
+const EMPTY_LINE: &[u8] = b"\r\n";
+
 /// Writes a response with a body of JSON: the head in one write and the body in one more, where the sink takes them whole.
 /// Takes no memory.
 ///
@@ -66,7 +69,7 @@ fn response_head(status: u16, close: bool, length: usize) -> ArrayVec<u8, HEAD_R
     push(&mut head, Buffer::new().format(length).as_bytes());
     push(&mut head, b"\r\n");
     push(&mut head, closing_field(close));
-    push(&mut head, b"\r\n");
+    push(&mut head, EMPTY_LINE);
     head
 }
 

@@ -1,4 +1,4 @@
-use Rattle.std.proofs.Common.{◌≡◌, ◌∙◌, ap, arith, length, length-take}
+use Rattle.std.proofs.Common.{ap, arith, length, length-take}
 use Rattle.http_wire.proofs.BodyFacts.{moves}
 use Rattle.http_wire.proofs.body.move_piece.Goals as goal
 

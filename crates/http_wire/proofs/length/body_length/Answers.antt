@@ -1,5 +1,5 @@
-use Rattle.std.proofs.Common.{◌≡◌, ◌+◌, ◌∙◌, ap, sym, subst, take, drop, suc, refl, List, ℕ}
-use Rattle.http_wire.specs.Lengths.{HasFound, HasBadLength}
+use Rattle.std.proofs.Common.{subst, take, drop, suc, refl, List, ℕ}
+use Rattle.http_wire.specs.Lengths.{HasBadLength}
 use Rattle.http_wire.proofs.LengthFacts.{first-more, cut}
 use Rattle.http_wire.proofs.length.body_length.Goals as goal
 

@@ -1,4 +1,4 @@
-use Rattle.std.proofs.Common.{◌<◌, ◌≤◌, slice_index_or, rules, arith, ◌-◌}
+use Rattle.std.proofs.Common.{◌≤◌, slice_index_or, rules, arith}
 use Rattle.http_wire.proofs.Digits.{fits}
 use Rattle.http_wire.proofs.length.number_of.Goals as goal
 

@@ -1,4 +1,4 @@
-use Rattle.std.proofs.Common.{◌≡◌, rules, arith, ◌∙◌, ap, sym, subst, Option, Some, None, ℕ}
+use Rattle.std.proofs.Common.{rules, ◌∙◌, ap, sym, subst, Some, ℕ}
 use Rattle.http_wire.specs.Lengths.{HasFound}
 use Rattle.http_wire.proofs.LengthFacts.{bad-digits, differs, begins, repeats}
 use Rattle.http_wire.proofs.length.with_field.Goals as goal

@@ -1,7 +1,7 @@
-use Rattle.std.proofs.Common.{◌≡◌, ◌∙◌, sym, subst, refl, IsUtf8, take, List, ℕ}
+use Rattle.std.proofs.Common.{◌≡◌, ◌∙◌, sym, subst, refl, IsUtf8, take}
 use Rattle.http_wire.specs.Heads.{fields_of}
 use Rattle.http_wire.specs.Lengths.{HasBadLength}
-use Rattle.http_wire.proofs.HeadFacts.{IsUtf8-from_token, names_are_text}
+use Rattle.http_wire.proofs.HeadFacts.{IsUtf8-from_token}
 use Rattle.http_wire.proofs.MakeFacts.{fields-inside, is_head}
 use Rattle.http_wire.proofs.make.make_head.Goals as goal
 

@@ -1,4 +1,4 @@
-use Rattle.std.proofs.Common.{◌≡◌, ◌∙◌}
+use Rattle.std.proofs.Common.{◌∙◌}
 use Rattle.http_wire.specs.Responses.{response_head_text}
 use Rattle.http_wire.proofs.ResponseFacts.{joined}
 use Rattle.http_wire.proofs.response.response_head.Goals as goal

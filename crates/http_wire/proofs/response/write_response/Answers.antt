@@ -1,5 +1,5 @@
 use Rattle.std.specs.Io.KnownBytes.{Appends}
-use Rattle.std.proofs.Common.{◌≡◌, ◌∙◌, subst, length, List, ℕ}
+use Rattle.std.proofs.Common.{◌∙◌, subst, length, List, ℕ}
 use Rattle.std.proofs.KnownBytes.{Appends-trans}
 use Rattle.std.proofs.lemmas.Result.{err_from_is_err_and, on_err_weaker, on_ok_weaker}
 use Rattle.dl_outside.specs.Writing.{AppendsFront}

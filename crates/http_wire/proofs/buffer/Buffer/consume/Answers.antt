@@ -1,4 +1,4 @@
-use Rattle.std.proofs.Common.{◌≡◌, ◌∙◌, ap, sym, drop, arith, length, length-take, ◌-◌}
+use Rattle.std.proofs.Common.{◌∙◌, ap, drop, arith, length, length-take, ◌-◌}
 use Rattle.http_wire.proofs.Ranges.{later}
 use Rattle.http_wire.proofs.buffer.Buffer.consume.Goals as goal
 

@@ -1,4 +1,4 @@
-use Rattle.std.proofs.Common.{◌≡◌, ◌∙◌, ap, sym, take, arith}
+use Rattle.std.proofs.Common.{◌∙◌, ap, take, arith}
 use Rattle.http_wire.proofs.Ranges.{front}
 use Rattle.http_wire.proofs.buffer.Buffer.front.Goals as goal
 

@@ -1,4 +1,4 @@
-use Rattle.std.proofs.Common.{◌≡◌, ◌∙◌, ◌-◌, ap, sym, take, length, arith, length-take, length-drop, ◌++◌}
+use Rattle.std.proofs.Common.{◌≡◌, ◌∙◌, ◌-◌, ap, take, length, arith, length-take, ◌++◌}
 use Rattle.http_wire.proofs.Ranges.{grown-into, kept}
 use Rattle.http_wire.proofs.buffer.Buffer.refill.Goals as goal
 

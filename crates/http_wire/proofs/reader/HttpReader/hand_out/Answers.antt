@@ -1,4 +1,4 @@
-use Rattle.std.proofs.Common.{◌≡◌, ◌≤◌, arith, length, length-take, ap}
+use Rattle.std.proofs.Common.{arith, length, length-take, ap}
 use Rattle.http_wire.specs.Reader.{Reader}
 use Rattle.http_wire.proofs.reader.HttpReader.hand_out.Goals as goal
 

@@ -1,5 +1,5 @@
 use Rattle.std.specs.Io.KnownBytes.{Keeps, prepend_known}
-use Rattle.std.proofs.Common.{◌≡◌, ap, subst, List, ℕ}
+use Rattle.std.proofs.Common.{ap, subst}
 use Rattle.std.proofs.lemmas.Result.{IfErr-weaker, IfOk-weaker}
 use Rattle.http_wire.specs.Reader.{Reader}
 use Rattle.http_wire.proofs.TakeFacts.{hands-out, keeps-back, stays-back}
