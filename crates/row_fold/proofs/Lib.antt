@@ -1,4 +1,5 @@
 mod Below
 mod MergeLemmas
+mod OrderedRows
 mod RunLemmas
 mod Sorts

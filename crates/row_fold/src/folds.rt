@@ -2,6 +2,7 @@
 ghost use Rattle.std.specs.Prelude.{◌≡◌, IfOk};
 ghost use Rattle.schema_models.specs.Folds.{fold_of};
 
+use crate::ascending::is_folded;
 use crate::key_rule::KeyRule;
 use crate::merging::fold_ascending;
 use crate::sorting::{sort_by_key, with_prefixes};
@@ -15,6 +16,9 @@ pub fn fold_rows(alloc: Global, shape: &Shape, rows: Rows) -> Result<Rows, NoMem
     ensures { IfOk result (λ out. out ≡ fold_of shape.now rows) }
 {
     let rule = KeyRule::new(shape);
+    if is_folded(&rule, &rows) {
+        return Ok(rows);
+    }
     let mut keyed = with_prefixes(alloc, &rows)?;
     sort_by_key(&rule, &mut keyed)?;
     fold_ascending(alloc, &rule, &keyed)

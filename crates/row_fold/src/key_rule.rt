@@ -22,6 +22,7 @@ impl<'a> KeyRule<'a> {
     ghost use Rattle.std.specs.Prelude.{◌≡◌, ◌↔◌, IsTrue};
     ghost use Rattle.dl_values.specs.Order.{row_cmp};
     ghost use Rattle.schema_models.specs.Folds.{key_of};
+    ghost use Rattle.row_fold.specs.Follows as follow;
     ghost use Rattle.schema_models.specs.declared.model.Model.TheVariants as model;
 
     pub fn new(shape: &'a Shape) -> KeyRule<'a>
@@ -37,7 +38,8 @@ impl<'a> KeyRule<'a> {
 
     // Whether each row of a key is kept.
     pub fn keeps_all(&self) -> bool
-        ensures { IsTrue result ↔ (self.now.shape.now.model ≡ model.Duplicate) }
+        ensures is { IsTrue result ↔ (self.now.shape.now.model ≡ model.Duplicate) }
+        ensures by_model { result ≡ follow.keeps_all self.now.shape.now.model }
     {
         match self.model {
             Model::Duplicate => true,

@@ -1,6 +1,7 @@
 //! The quick fold of rows: a stable sort by key with prefixes, and one merge of the rows that then stand side by side.
 #![tactic(auto)]
 
+mod ascending;
 mod folds;
 mod key_rule;
 mod keyed;

@@ -1,4 +1,4 @@
-use Rattle.std.proofs.Common.{◌≡◌, ◌+◌, List, ◌∷◌, ◌++◌, drop, sym, ap, ◌∙◌, subst, arith}
+use Rattle.std.proofs.Common.{◌+◌, List, ◌∷◌, ◌++◌, drop, sym, ap, ◌∙◌, subst, arith}
 use Rattle.dl_values.specs.Order.{row_cmp}
 use Rattle.dl_values.specs.declared.cell.Cell.{Cell}
 use Rattle.fold_laws.specs.Fold.{Ascends}

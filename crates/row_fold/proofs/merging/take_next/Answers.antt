@@ -1,4 +1,4 @@
-use Rattle.std.proofs.Common.{◌≡◌, List, ◌∷◌, sym, ap, ap₂, ◌∙◌, subst, Equal}
+use Rattle.std.proofs.Common.{List, ◌∷◌, sym, ap, ap₂, ◌∙◌, subst}
 use Rattle.std.proofs.lemmas.Result.{on_ok_weaker}
 use Rattle.dl_values.specs.Order.{row_cmp}
 use Rattle.dl_values.specs.declared.cell.Cell.{Cell}

@@ -1,4 +1,4 @@
-use Rattle.std.proofs.Common.{arith, sym, ap, ◌∙◌, length, length-take}
+use Rattle.std.proofs.Common.{arith, ap, ◌∙◌}
 use Rattle.schema_models.specs.Folds.{merged_row}
 use Rattle.row_fold.proofs.MergeLemmas.{merged_cut, merged_done}
 use Rattle.row_fold.proofs.runs.merge_into.Goals as goal
