@@ -1,0 +1,6 @@
+//! Rowsets: folded rows of one tablet that do not change any more.
+#![tactic(auto)]
+
+mod rowset;
+
+pub use rowset::Rowset;

@@ -1,0 +1,8 @@
+// What is wrong with a table's definition.
+use partitions::LayoutError;
+
+/// The first thing that is wrong with the definition of a table: of its columns and keys, or of its layout.
+#[derive(Debug, Drop)]
+pub enum DefError {
+    Layout(LayoutError),
+}
