@@ -1,0 +1,3 @@
+mod CellTypeLemmas
+mod FaultLemmas
+mod Lists
