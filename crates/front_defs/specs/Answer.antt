@@ -15,13 +15,15 @@ use Rattle.front_defs.specs.declared.command.Command.TheVariants as command
 use Rattle.front_defs.specs.declared.reply.Placed.{Placed}
 use Rattle.front_defs.specs.declared.reply.Reply.{Reply}
 use Rattle.front_defs.specs.declared.reply.Reply.TheVariants as reply
-use Rattle.front_defs.specs.Names.{is_name, is_label, auto_label}
-use Rattle.front_defs.specs.Refusals.{refuse_if, first_of, Answers}
+use Rattle.schema_models.specs.Names.{is_name}
+use Rattle.front_defs.specs.Names.{is_label, auto_label}
+use Rattle.schema_models.specs.Faults.{refuse_if}
+use Rattle.front_defs.specs.Refusals.{Answers}
 use Rattle.front_defs.specs.Ids.{next_of}
 use Rattle.front_defs.specs.Catalogue.{has_db, table_named, databases_of, tables_of}
 use Rattle.front_defs.specs.Transactions.{is_prepare, is_precommitted, is_aborted, txn_at, txn_by, label_of, due, ahead_of, place_of, txns_of, places_of}
 use Rattle.front_defs.specs.Defines.{def_fault}
-use Rattle.front_defs.specs.Folding.{fold_of}
+use Rattle.schema_models.specs.Folds.{fold_of}
 use Rattle.front_defs.specs.Stored.{base_of, lists_of, cost_of}
 
 -- at most so many databases, and so many tables in all

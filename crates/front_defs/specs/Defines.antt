@@ -1,13 +1,16 @@
 -- What the definition of a table gives (Apache Doris documentation, "CREATE TABLE").
-use Rattle.std.specs.Prelude.{ℕ, zero, suc, ◌-◌, Bool, true, false, cond, not, ◌&&◌, ◌||◌, List, [], ◌∷◌, ◌++◌, Option, Some, None, map, find, length, nat_le, nat_lt, unwrap_or}
+use Rattle.std.specs.Prelude.{ℕ, zero, suc, ◌+◌, Bool, true, false, cond, not, ◌&&◌, List, [], ◌∷◌, Option, Some, None, find, length, nat_le, unwrap_or}
 use Rattle.std.specs.List.{list_any}
-use Rattle.dl_values.specs.declared.cell.Cell.{Cell}
+use Rattle.std.specs.Option.{option_map}
+use Rattle.schema_models.specs.Faults.{refuse_if, first_of}
+use Rattle.schema_models.specs.ShapeRules.{is_key, shape_fault}
 use Rattle.schema_models.specs.ShapeView.{ShapeView}
 use Rattle.schema_models.specs.declared.column_def.ColumnDef.{ColumnDef}
 use Rattle.schema_models.specs.declared.model.Model.{Model}
 use Rattle.schema_models.specs.declared.model.Model.TheVariants as model
 use Rattle.schema_models.specs.declared.role.Role.{Role}
 use Rattle.schema_models.specs.declared.role.Role.TheVariants as role
+use Rattle.schema_models.specs.declared.shape_error.ShapeError.TheVariants as shape_error
 use Rattle.sql_text.specs.declared.table_def.TableDef.{TableDef}
 use Rattle.sql_text.specs.declared.table_def.ColumnText.{ColumnText}
 use Rattle.sql_text.specs.declared.table_def.KeyClause.{KeyClause}
@@ -17,7 +20,6 @@ use Rattle.partitions.specs.declared.layout_error.LayoutError.TheVariants as lay
 use Rattle.table_defs.specs.declared.def_error.DefError.{DefError}
 use Rattle.table_defs.specs.declared.def_error.DefError.TheVariants as def_error
 use Rattle.front_defs.specs.Names.{same}
-use Rattle.front_defs.specs.Refusals.{refuse_if, first_of}
 
 -- without a key clause the table is Duplicate, with its first column as key
 abbrev pub model_by : Option KeyClause → Model
@@ -49,39 +51,50 @@ buckets_by def = unwrap_or def.buckets 10
 abbrev pub layout_by : List ℕ → TableDef → LayoutView
 layout_by table def = whole table def.hash (buckets_by def)
 
+-- the position of the first name of a key list that is not that of the column in its place
+abbrev pub first_differs : ℕ → List (List ℕ) → List ColumnText → Option ℕ
+first_differs n [] columns = None
+first_differs n (k ∷ ks) [] = Some n
+first_differs n (k ∷ ks) (c ∷ cs) = cond (same k c.name) (first_differs (n + 1) ks cs) (Some n)
+
+abbrev pub key_differs : Option KeyClause → List ColumnText → Option ℕ
+key_differs None columns = None
+key_differs (Some k) columns = first_differs 0 k.names columns
+
+-- a key list names the first columns, in their order
+abbrev pub key_fault : TableDef → Option DefError
+key_fault def = option_map (λ n. def_error.Shape (shape_error.KeyAfterValue n)) (key_differs def.key def.columns)
+
 -- a distribution column is one of the table's
 abbrev pub is_column : List ColumnDef → List ℕ → Bool
 is_column columns name = list_any (λ c. same c.name name) columns
-
-abbrev pub unknown_hash : List ColumnDef → List (List ℕ) → Option DefError
-unknown_hash columns [] = None
-unknown_hash columns (n ∷ ns) = first_of (refuse_if (not (is_column columns n)) (def_error.Layout (layout_error.NoColumn n)) ∷ unknown_hash columns ns ∷ [])
 
 -- and, but in a Duplicate table, one of its keys
 abbrev pub is_duplicate : Model → Bool
 is_duplicate model.Duplicate = true
 is_duplicate _ = false
 
-abbrev pub is_key_role : Role → Bool
-is_key_role role.Key = true
-is_key_role _ = false
+abbrev pub is_key_column : List ColumnDef → List ℕ → Bool
+is_key_column columns name = list_any (λ c. same c.name name && is_key c.role) columns
 
-abbrev pub is_key : List ColumnDef → List ℕ → Bool
-is_key columns name = list_any (λ c. same c.name name && is_key_role c.role) columns
+-- the first name that is no column, and the first that is no key
+abbrev pub unknown_in : List ColumnDef → List (List ℕ) → Option (List ℕ)
+unknown_in columns names = find (λ n. not (is_column columns n)) names
 
-abbrev pub no_key_hash : List ColumnDef → List (List ℕ) → Option DefError
-no_key_hash columns [] = None
-no_key_hash columns (n ∷ ns) = first_of (refuse_if (not (is_key columns n)) (def_error.Layout (layout_error.NotAKey n)) ∷ no_key_hash columns ns ∷ [])
+abbrev pub no_key_in : ShapeView → List (List ℕ) → Option (List ℕ)
+no_key_in s names = cond (is_duplicate s.model) None (find (λ n. not (is_key_column s.columns n)) names)
 
-abbrev pub key_fault : ShapeView → List (List ℕ) → Option DefError
-key_fault s names = cond (is_duplicate s.model) None (no_key_hash s.columns names)
-
--- what is wrong with a layout for rows of that shape
-abbrev pub layout_faults : ShapeView → List (List ℕ) → ℕ → List (Option DefError)
+-- what may be wrong with a layout for rows of that shape, in this order
+abbrev pub layout_faults : ShapeView → List (List ℕ) → ℕ → List (Option LayoutError)
 layout_faults s hash buckets =
-    unknown_hash s.columns hash ∷ key_fault s hash
-    ∷ refuse_if (not (nat_le 1 buckets && nat_le buckets 64)) (def_error.Layout layout_error.BadBuckets) ∷ []
+    option_map layout_error.NoColumn (unknown_in s.columns hash) ∷ option_map layout_error.NotAKey (no_key_in s hash)
+    ∷ refuse_if (not (nat_le 1 buckets && nat_le buckets 64)) layout_error.BadBuckets ∷ []
 
--- the first thing that is wrong with a definition
+abbrev pub layout_fault : ShapeView → List (List ℕ) → ℕ → Option LayoutError
+layout_fault s hash buckets = first_of (layout_faults s hash buckets)
+
+-- the first thing that is wrong with a definition: with its key list, its columns, its layout
 abbrev pub def_fault : TableDef → Option DefError
-def_fault def = first_of (layout_faults (shape_by def) def.hash (buckets_by def))
+def_fault def = first_of
+    (key_fault def ∷ option_map def_error.Shape (shape_fault (shape_by def).model (shape_by def).columns)
+    ∷ option_map def_error.Layout (layout_fault (shape_by def) def.hash (buckets_by def)) ∷ [])

@@ -4,6 +4,8 @@ use Rattle.std.specs.List.{list_any}
 use Rattle.dl_values.specs.declared.cell.Cell.{Cell}
 use Rattle.labels.specs.declared.txn_state.TxnState.TheVariants as state
 use Rattle.schema_models.specs.ShapeView.{ShapeView}
+use Rattle.schema_models.specs.ShapeRules.{IsShape}
+use Rattle.partitions.specs.LayoutView.{LayoutView, whole}
 use Rattle.front_defs.specs.declared.event.Event.{Event}
 use Rattle.front_defs.specs.declared.event.Event.TheVariants as event
 use Rattle.front_defs.specs.declared.event.DbMade.{DbMade}
@@ -13,10 +15,10 @@ use Rattle.front_defs.specs.declared.catalogue.Table.{Table}
 use Rattle.front_defs.specs.declared.txn.Txn.{Txn}
 use Rattle.front_defs.specs.declared.history.Entry.{Entry}
 use Rattle.front_defs.specs.declared.history.Entry.TheVariants.{Told}
-use Rattle.front_defs.specs.Names.{same, is_name, is_label, auto_label}
-use Rattle.front_defs.specs.RowsOf.{are_rows_of}
-use Rattle.front_defs.specs.Refusals.{first_of}
-use Rattle.front_defs.specs.Defines.{layout_faults}
+use Rattle.schema_models.specs.Names.{is_name}
+use Rattle.front_defs.specs.Names.{same, is_label, auto_label}
+use Rattle.front_defs.specs.Stored.{are_rows_of}
+use Rattle.front_defs.specs.Defines.{layout_fault}
 use Rattle.front_defs.specs.Ids.{range_of, next_of, told_ids, range_size}
 use Rattle.front_defs.specs.Catalogue.{has_db, table_named, table_at, databases_of, last_table_of, tables_of}
 use Rattle.front_defs.specs.Transactions.{is_aborted, txn_at, holds, due, txns_of, places_of}
@@ -43,13 +45,19 @@ pub record FollowsDb (Es : List Event) (d : DbMade) : Type 0 where
   pub new : has_db d.name (databases_of Es) ≡ false
   pub room : nat_le most (length (databases_of Es)) ≡ false
 
+-- a layout for rows of that shape: so far one partition with the table's name
+pub record IsLayout (table : List ℕ) (s : ShapeView) (l : LayoutView) : Type 0 where
+  pub parts : l ≡ whole table l.hash l.buckets
+  pub valid : layout_fault s l.hash l.buckets ≡ None
+
 -- a new table of a known database, with a valid shape and layout
 pub record FollowsTable (Es : List Event) (m : TableMade) : Type 0 where
   pub known : has_db m.db (databases_of Es) ≡ true
   pub named : is_name m.name ≡ true
   pub new : is_some (table_named m.db m.name (tables_of Es)) ≡ false
   pub room : nat_le most (length (tables_of Es)) ≡ false
-  pub layout : first_of (layout_faults m.shape m.layout.hash m.layout.buckets) ≡ None
+  pub shape : IsShape m.shape
+  pub layout : IsLayout m.name m.shape m.layout
 
 -- the label of a load has the form of a label, or is the one that its number gives it
 abbrev pub is_load_label : ℕ → List ℕ → Bool
@@ -66,7 +74,7 @@ pub record FollowsLoad (Es : List Event) (s : LoadSubmitted) (t : Table) : Type 
   pub label : is_load_label s.txn s.label ≡ true
   pub free : list_any (hinders s.txn t.db s.label) (txns_of Es) ≡ false
   pub schema : s.schema ≡ t.schema
-  pub rows : are_rows_of t.shape.columns s.rows ≡ true
+  pub rows : are_rows_of t.shape s.rows ≡ true
 
 -- A record follows the ones before it.
 abbrev pub Follows : List Event → Event → Type 0

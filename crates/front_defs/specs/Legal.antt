@@ -6,7 +6,7 @@ use Rattle.front_defs.specs.declared.reply.Reply.TheVariants as reply
 use Rattle.front_defs.specs.declared.history.Call.{Call}
 use Rattle.front_defs.specs.declared.history.Entry.{Entry}
 use Rattle.front_defs.specs.declared.history.Entry.TheVariants.{Told, Made}
-use Rattle.front_defs.specs.Refusals.{first_of}
+use Rattle.schema_models.specs.Faults.{first_of}
 use Rattle.front_defs.specs.Answer.{Answer, refusals}
 use Rattle.front_defs.specs.History.{acted, journal, opening, happened, broken_of, last_faults}
 use Rattle.front_defs.specs.Journal.{Follows}

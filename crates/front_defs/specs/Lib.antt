@@ -1,10 +1,8 @@
 pub mod Names
-pub mod RowsOf
 pub mod Refusals
 pub mod Ids
 pub mod Catalogue
 pub mod Transactions
-pub mod Folding
 pub mod Stored
 pub mod Defines
 pub mod Answer

@@ -8,6 +8,7 @@ mod event;
 mod history;
 mod reply;
 mod tablet_lists;
+mod turns;
 mod txn;
 
 pub use catalogue::{Rollup, SchemaStep, Table};
@@ -19,4 +20,5 @@ pub use event::{
 pub use history::{Call, Entry};
 pub use reply::{Placed, Reply};
 pub use tablet_lists::TabletLists;
+pub use turns::Turns;
 pub use txn::Txn;

@@ -10,6 +10,4 @@ pub enum LayoutError {
     NotAKey { column: Name },
     /// The number of buckets is not from 1 to 64.
     BadBuckets,
-    /// There was not enough memory.
-    NoMemory,
 }
