@@ -1,3 +1,6 @@
 pub mod Lists
 pub mod Keeps
 pub mod Openings
+pub mod Marks
+pub mod Tidying
+pub mod Following

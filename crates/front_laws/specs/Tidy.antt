@@ -1,6 +1,7 @@
 -- What holds of the transactions of every legal history, and which events may come after others.
-use Rattle.std.specs.Prelude.{◌≡◌, ℕ, ◌+◌, ◌≤◌, ◌<◌, Bool, true, false, ◌&&◌, List, [], ◌∷◌, Option, Some, IfSome, filter, count_by, nat_eq, ◌⊎◌}
+use Rattle.std.specs.Prelude.{◌≡◌, ℕ, ◌+◌, ◌≤◌, ◌<◌, Bool, true, false, ◌&&◌, List, [], ◌∷◌, ◌++◌, Option, Some, IfSome, filter, count_by, nat_eq, ◌⊎◌}
 use Rattle.std.specs.List.{list_any}
+use Rattle.schema_models.specs.ShapeView.{ShapeView}
 use Rattle.labels.specs.declared.txn_state.TxnState.{TxnState}
 use Rattle.labels.specs.declared.txn_state.TxnState.TheVariants as state
 use Rattle.front_defs.specs.declared.event.Event.{Event}
@@ -9,9 +10,9 @@ use Rattle.front_defs.specs.declared.event.TxnBegun.{TxnBegun}
 use Rattle.front_defs.specs.declared.event.LoadSubmitted.{LoadSubmitted}
 use Rattle.front_defs.specs.declared.catalogue.Table.{Table}
 use Rattle.front_defs.specs.declared.txn.Txn.{Txn}
-use Rattle.front_defs.specs.RowsOf.{are_rows_of}
+use Rattle.front_defs.specs.Stored.{are_rows_of}
 use Rattle.front_defs.specs.Ids.{range_of, next_of, told_ids, range_size}
-use Rattle.front_defs.specs.Catalogue.{table_at, db_of, tables_of}
+use Rattle.front_defs.specs.Catalogue.{table_at, db_of, last_table_of, tables_of}
 use Rattle.front_defs.specs.Transactions.{is_committed, is_visible, txn_at, place_of, due, txns_of, places_of}
 use Rattle.front_defs.specs.Journal.{There, FollowsDb, FollowsTable, is_load_label}
 
@@ -49,6 +50,15 @@ IsHome db schema b = (b.db ≡ db) × (b.schema ≡ schema)
 abbrev pub HasHome : List Table → Txn → Type 0
 HasHome tables t = There (table_at t.table tables) (IsHome t.db t.schema)
 
+-- the last number that was begun
+abbrev pub last_begun_after : Event → ℕ → ℕ
+last_begun_after (event.TxnBegun b) last = b.txn
+last_begun_after _ last = last
+
+abbrev pub last_begun : List Event → ℕ
+last_begun [] = 0
+last_begun (e ∷ Es) = last_begun_after e (last_begun Es)
+
 pub record Tidy (Es : List Event) : Type 0 where
   pub tells : Each (λ t. Tells t.state t.told) (txns_of Es)
   pub ascends : Ascends (txns_of Es)
@@ -56,8 +66,12 @@ pub record Tidy (Es : List Event) : Type 0 where
   pub below : Each (λ t. t.id < next_of Es) (txns_of Es)
   pub known : Each (λ t. t.told ≡ list_any (nat_eq t.id) (told_ids Es)) (txns_of Es)
   pub homes : Each (HasHome (tables_of Es)) (txns_of Es)
+  pub labelled : Each (λ t. is_load_label t.id t.label ≡ true) (txns_of Es)
   pub ids : Each (λ i. i < next_of Es) (told_ids Es)
   pub within : next_of Es ≤ range_of Es + 1
+  pub spent : last_begun Es < next_of Es
+  pub numbers : Pairs (λ (a b : Table). a.number < b.number) (tables_of Es)
+  pub numbered : Each (λ (b : Table). b.number ≤ last_table_of Es) (tables_of Es)
 
 -- the others with this label are older and aborted
 abbrev pub LabelFits : ℕ → List ℕ × List ℕ → Txn → Type 0
@@ -69,13 +83,15 @@ pub record BeginsNow (Es : List Event) (b : TxnBegun) : Type 0 where
   pub unspent : Each (λ i. i < b.txn) (told_ids Es)
   pub within : b.txn ≤ range_of Es
   pub free : Each (λ u. (b.db, b.label) ≡ label_key u → u.state ≡ state.Aborted) (txns_of Es)
+  pub fresh : last_begun Es < b.txn
+  pub label : is_load_label b.txn b.label ≡ true
   pub home : There (table_at b.table (tables_of Es)) (IsHome b.db b.schema)
 
 -- a load of a live table that is submitted for the first time
 pub record SubmitsNow (Es : List Event) (s : LoadSubmitted) : Type 0 where
   pub below : s.txn < next_of Es
   pub new : list_any (nat_eq s.txn) (told_ids Es) ≡ false
-  pub home : There (table_at s.table (tables_of Es)) (λ b. (b.schema ≡ s.schema) × (are_rows_of b.shape.columns s.rows ≡ true))
+  pub home : There (table_at s.table (tables_of Es)) (λ b. (b.schema ≡ s.schema) × (are_rows_of b.shape s.rows ≡ true))
   pub label : is_load_label s.txn s.label ≡ true
   pub fits : Each (LabelFits s.txn (db_of s.table (tables_of Es), s.label)) (txns_of Es)
 
@@ -94,6 +110,16 @@ Happens Es (event.TxnAborted a) = At Es a.txn (λ w. w.state ≡ state.Precommit
 Happens Es (event.LoadPublished p) = (w : Txn) × (due (txns_of Es) ≡ Some w) × (w.id ≡ p.txn)
 Happens Es (event.TxnEnded x) = At Es x.txn (λ w. w.told ≡ false)
 Happens Es event.Opened = Unit {0}
+
+-- a load that a call submits is of a transaction that is kept
+abbrev pub IsKept : List Event → Event → Type 0
+IsKept Es (event.LoadSubmitted s) = At Es s.txn (λ w. w.table ≡ s.table)
+IsKept Es _ = Unit {0}
+
+-- these events can happen one after another, the last of them first
+abbrev pub HappenAll : List Event → List Event → Type 0
+HappenAll [] Es = Unit {0}
+HappenAll (e ∷ new) Es = Happens (new ++ Es) e × IsKept (new ++ Es) e × HappenAll new Es
 
 -- What the agreement of an opening asks of an event: a load that becomes visible was told, and what leaves no record touches nothing that a record tells.
 abbrev pub Fits : Event → List Txn → Type 0
@@ -138,3 +164,8 @@ published_of (e ∷ Es) = published_after e (published_of Es)
 -- no number stands in it twice
 abbrev pub Distinct : List ℕ → Type 0
 Distinct ids = Pairs (λ i j. i ≡ j → ⊥) ids
+
+-- a transaction of that number has a table of that shape, and was begun
+pub record PlanHolds (Es : List Event) (id : ℕ) (base : ShapeView) : Type 0 where
+  pub begun : id ≤ last_begun Es
+  pub shaped : Each (λ t. t.id ≡ id → There (table_at t.table (tables_of Es)) (λ b. b.shape ≡ base)) (txns_of Es)

@@ -1,0 +1,90 @@
+-- Worked histories of one table, the newest entry first: what is asked and what is answered.
+use Rattle.std.specs.Prelude.{◌≡◌, ℕ, Bool, true, false, List, [], ◌∷◌, ◌++◌, Option, Some, None, pos, ◌⊎◌}
+use Rattle.dl_values.specs.declared.cell.Cell.{Cell}
+use Rattle.dl_values.specs.declared.cell.Cell.TheVariants as cell
+use Rattle.dl_values.specs.declared.col_type.ColType.TheVariants as kind
+use Rattle.schema_models.specs.declared.model.Model.TheVariants as model
+use Rattle.labels.specs.declared.txn_state.TxnState.TheVariants as state
+use Rattle.sql_text.specs.declared.table_def.TableDef.{TableDef}
+use Rattle.sql_text.specs.declared.table_def.ColumnText.{ColumnText}
+use Rattle.sql_text.specs.declared.query.Query.{Query}
+use Rattle.shadow_writes.specs.declared.plan.Plan.{Plan}
+use Rattle.shadow_writes.specs.declared.built.Built.{Built}
+use Rattle.front_defs.specs.declared.command.Command.{Command}
+use Rattle.front_defs.specs.declared.command.Command.TheVariants as command
+use Rattle.front_defs.specs.declared.command.TxnKey.TheVariants as key
+use Rattle.front_defs.specs.declared.reply.Reply.{Reply}
+use Rattle.front_defs.specs.declared.reply.Reply.TheVariants as reply
+use Rattle.front_defs.specs.declared.history.Call.{Call}
+use Rattle.front_defs.specs.declared.history.Entry.{Entry}
+use Rattle.front_defs.specs.declared.history.Entry.TheVariants.{Made}
+use Rattle.front_defs.specs.Defines.{shape_by, layout_by}
+use Rattle.front_defs.specs.Answer.{Answer}
+use Rattle.front_defs.specs.History.{happened}
+use Rattle.front_defs.specs.Stored.{base_of}
+
+-- `d`, `t`, `k`, `v`
+abbrev pub d : List ℕ
+d = 100 ∷ []
+
+abbrev pub t : List ℕ
+t = 116 ∷ []
+
+abbrev pub k : List ℕ
+k = 107 ∷ []
+
+abbrev pub v : List ℕ
+v = 118 ∷ []
+
+-- `(k INT, v INT) DUPLICATE KEY(k) DISTRIBUTED BY HASH(k) BUCKETS 1`
+abbrev pub int_column : List ℕ → ColumnText
+int_column name = record { name = name; kind = kind.Int; nullable = true }
+
+abbrev pub def : TableDef
+def = record { columns = int_column k ∷ int_column v ∷ []; key = Some (record { model = model.Duplicate; names = k ∷ [] }); hash = k ∷ []; buckets = Some 1 }
+
+-- the plan of a load of the table
+abbrev pub plan : ℕ → Plan
+plan id = record { txn = id; schema = 0; layout = layout_by t def; base = shape_by def }
+
+-- an entry of the one seat, over a keeper that meets no fault
+abbrev pub call : Command → Reply → Entry
+call c r = Made (record { seat = []; command = c; reply = r; opened = false; rose = false; took = false; faults_in = 0; faults_out = 0 })
+
+-- a database and a table were made
+abbrev pub made : List Entry
+made = call (command.CreateTable d t def false) reply.Done ∷ call (command.CreateDb d false) reply.Done ∷ []
+
+-- the labels `a1` and `b`
+abbrev pub a1 : List ℕ
+a1 = 97 ∷ 49 ∷ []
+
+abbrev pub b : List ℕ
+b = 98 ∷ []
+
+abbrev pub row : ℕ → ℕ → List Cell
+row x y = cell.Int (pos x) ∷ cell.Int (pos y) ∷ []
+
+-- the rows `1,5`, `2,7` and `1,6`
+abbrev pub rows : List (List Cell)
+rows = row 1 5 ∷ row 2 7 ∷ row 1 6 ∷ []
+
+abbrev pub begin : List ℕ → Command
+begin label = command.Begin d t (Some label) false 0
+
+abbrev pub submit : ℕ → Built → Command
+submit id built = command.Submit id built 0
+
+-- a first load: begun, submitted, published
+abbrev pub begun : List Entry
+begun = call (begin a1) (reply.Begun 1 (plan 1)) ∷ made
+
+abbrev pub submitted : Built → List Entry
+submitted built = call (submit 1 built) (reply.Submitted (Some (record { place = 1; ahead = 0 }))) ∷ begun
+
+abbrev pub loaded : Built → List Entry
+loaded built = call (command.Publish 0) (reply.Published 1 1) ∷ submitted built
+
+-- the one answer but want of memory
+abbrev pub OneAnswer : List Entry → Command → Reply → Type 0
+OneAnswer H c r = Answer (happened H) c r × ((x : Reply) → Answer (happened H) c x → (x ≡ reply.NoMemory) ⊎ (x ≡ r))
