@@ -4,3 +4,4 @@ pub mod Openings
 pub mod Marks
 pub mod Tidying
 pub mod Following
+pub mod Acting
