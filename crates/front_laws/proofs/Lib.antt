@@ -5,3 +5,4 @@ pub mod Marks
 pub mod Tidying
 pub mod Following
 pub mod Acting
+pub mod Replies
