@@ -190,7 +190,7 @@ load_label None next h = auto (is_label (auto_label next)) ((bytes_eq-Decides (a
     auto false h = h
 load_label (Some label) next h = rw (not_false (is_label label) (not_refused (not (is_label label)) reply.BadLabel h)) refl
 
-abbrev begun_now : ℕ → Option (List ℕ) → Bool → ℕ → Table → TxnBegun
+abbrev pub begun_now : ℕ → Option (List ℕ) → Bool → ℕ → Table → TxnBegun
 begun_now next label two_phase at t = record { txn = next; db = t.db; table = t.number; label = label_for label next; two_phase = two_phase; schema = t.schema; at = at }
 
 begins_now : (Es : List Event) (db table : List ℕ) (label : Option (List ℕ)) (two_phase : Bool) (at : ℕ) (t : Table) → Tidy Es → table_named db table (tables_of Es) ≡ Some t → bad_label label ≡ None → used (label_of db (label_for label (next_of Es)) (txns_of Es)) ≡ None → BeginsNow (new_range Es ++ Es) (begun_now (next_of Es) label two_phase at t)

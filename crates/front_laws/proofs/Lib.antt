@@ -6,3 +6,4 @@ pub mod Tidying
 pub mod Following
 pub mod Acting
 pub mod Replies
+pub mod Histories
