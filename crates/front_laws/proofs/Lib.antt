@@ -7,3 +7,4 @@ pub mod Following
 pub mod Acting
 pub mod Replies
 pub mod Histories
+pub mod Places

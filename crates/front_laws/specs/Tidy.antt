@@ -1,5 +1,5 @@
 -- What holds of the transactions of every legal history, and which events may come after others.
-use Rattle.std.specs.Prelude.{◌≡◌, ℕ, ◌+◌, ◌≤◌, ◌<◌, Bool, true, false, ◌&&◌, List, [], ◌∷◌, ◌++◌, Option, Some, IfSome, filter, count_by, nat_eq, ◌⊎◌}
+use Rattle.std.specs.Prelude.{◌≡◌, ℕ, ◌+◌, ◌≤◌, ◌<◌, Bool, true, false, ◌&&◌, List, [], ◌∷◌, ◌++◌, Option, Some, IfSome, filter, length, nat_eq, ◌⊎◌}
 use Rattle.std.specs.List.{list_any}
 use Rattle.schema_models.specs.ShapeView.{ShapeView}
 use Rattle.labels.specs.declared.txn_state.TxnState.{TxnState}
@@ -143,7 +143,7 @@ PlacesDiffer t u = place_of t ≡ place_of u → place_of t ≡ 0
 
 -- how many loads wait to be published
 abbrev pub waiting : List Txn → ℕ
-waiting txns = count_by (λ t. is_committed t.state) txns
+waiting txns = length (filter (λ t. is_committed t.state) txns)
 
 -- the places of a list of transactions, where `last` was drawn last: they differ and are from 1 to the last, and those of the n loads that wait are the last n
 pub record PlacesFit (txns : List Txn) (last : ℕ) : Type 0 where
