@@ -8,3 +8,5 @@ pub mod Acting
 pub mod Replies
 pub mod Histories
 pub mod Places
+pub mod Published
+pub mod Seats
