@@ -1,4 +1,5 @@
 mod BlankLemmas
+mod CutLemmas
 mod EndedRows
 mod NumberLemmas
 mod OrderLemmas

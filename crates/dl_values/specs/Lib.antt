@@ -1,4 +1,6 @@
+pub mod Cuts
 pub mod Days
+pub mod Held
 pub mod Order
 pub mod Read
 pub mod Write

@@ -1,7 +1,7 @@
 -- Which cell a text stands for in a column of a type (this project's own; Apache Doris documentation, "Data Types").
-use Rattle.std.specs.Prelude.{ℕ, ℤ, ◌^◌, List, [], ◌∷◌, ◌==◌, ◌&&◌, Bool, true, Option, Some, None, if◌then◌else◌, length, nat_lt, nat_le, reverse, pos, negsuc}
+use Rattle.std.specs.Prelude.{◌≡◌, ◌<◌, ℕ, ℤ, List, [], ◌∷◌, ◌==◌, ◌&&◌, Bool, true, Option, Some, None, if◌then◌else◌, length, nat_lt, nat_le, reverse, pos, negsuc, neg_ℤ}
 use Rattle.std.specs.Str.{all_ascii_digits, is_utf8}
-use Rattle.std.specs.Str.Parse.{without_leading_sign, signed_digits_value}
+use Rattle.std.specs.Str.Parse.{digits_value}
 use Rattle.std.specs.Option.{option_map}
 use Rattle.dl_values.specs.Days.{day_of}
 use Rattle.dl_values.specs.declared.cell.Cell.{Cell}
@@ -21,18 +21,28 @@ strip_back cs = reverse (strip_front (reverse cs))
 abbrev pub without_blanks : List ℕ → List ℕ
 without_blanks cs = strip_back (strip_front cs)
 
--- an optional sign and one or more digits
-abbrev pub is_number : List ℕ → Bool
-is_number cs = nat_lt 0 (length (without_leading_sign cs)) && all_ascii_digits (without_leading_sign cs)
+-- one or more digits spell a number
+pub record Spells (ds : List ℕ) (n : ℕ) : Type 0 where
+  pub some : 0 < length ds
+  pub digits : all_ascii_digits ds ≡ true
+  pub value : n ≡ digits_value 10 ds
 
 -- a number is at least -m and below m
 abbrev pub is_within : ℕ → ℤ → Bool
 is_within m (pos n) = nat_lt n m
 is_within m (negsuc n) = nat_lt n m
 
--- the number that a text without blanks spells, where 64 bits hold it
-unfoldable pub number_of : List ℕ → Option ℤ
-number_of cs = if is_number cs && is_within 9223372036854775808 (signed_digits_value 10 cs) then Some (signed_digits_value 10 cs) else None
+-- the number of one or more digits behind a sign, where 64 bits hold it
+unfoldable pub signed_number : (ℕ → ℤ) → List ℕ → Option ℤ
+signed_number sign ds = if nat_lt 0 (length ds) && all_ascii_digits ds && is_within 9223372036854775808 (sign (digits_value 10 ds)) then Some (sign (digits_value 10 ds)) else None
+
+abbrev pub minus : ℕ → ℤ
+minus n = neg_ℤ (pos n)
+
+-- the number of a text without blanks: one or more digits, with a sign before them or without
+abbrev pub number_of : List ℕ → Option ℤ
+number_of [] = None
+number_of (c ∷ cs) = if c == 45 then signed_number minus cs else if c == 43 then signed_number pos cs else signed_number pos (c ∷ cs)
 
 -- the integer of a text, where it is at least -m and below m
 abbrev pub int_below : ℕ → Option ℤ → Option Cell

@@ -30,3 +30,6 @@ pub use row::{Row, copy_row};
 pub use rows::Rows;
 pub use text::Text;
 pub use write::write_cell;
+
+#[cfg(test)]
+mod tests;

@@ -47,6 +47,17 @@ impl Row {
         Ok(())
     }
 
+    // Moves the cells to the end of a list, and keeps the room for the next ones.
+    pub(crate) fn move_to(&mut self, list: &mut Vec<Cell>) -> Result<(), NoMemory>
+        ensures ok { OnOk result (list.new.items ≡ list.old.items ++ self.old) }
+        ensures emptied { OnOk result (self.new ≡ []) }
+        ensures err { OnErr result (list.new.items ≡ list.old.items) }
+        ensures kept { OnErr result (self.new ≡ self.old) }
+    {
+        list.append(&mut self.cells)?;
+        Ok(())
+    }
+
     /// The cells in their order.
     pub fn cells(&self) -> &[Cell]
         ensures { result.now ≡ self.now }

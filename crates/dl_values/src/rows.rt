@@ -1,14 +1,16 @@
-// Rows, which contracts see as the list of their lists of cells.
-ghost use Rattle.std.specs.Prelude.{◌≡◌, ◌<◌, OnOk, OnErr, ◌++◌, ◌∷◌, [], length, slice_index_or, ◌==◌};
+// Rows, which contracts see as the list of their lists of cells. They stand in one list of cells, one after the other.
+ghost use Rattle.std.specs.Prelude.{◌≡◌, ◌<◌, [], length, slice_index_or};
+ghost use Rattle.dl_values.specs.Cuts.{cut, start_of, IsCut};
 
 use crate::{Cell, NoMemory, Row};
 use std::alloc::Global;
 use std::marker::Model;
 
-/// Rows in their order.
+/// Rows in their order, of any widths.
 #[derive(Debug, Drop)]
 pub struct Rows {
-    rows: Vec<Row>,
+    ends: Vec<usize>,
+    cells: Vec<Cell>,
 }
 
 impl Model for Rows {
@@ -17,16 +19,42 @@ impl Model for Rows {
 
     ghost Value = { List (List Cell) };
 
-    ghost view = { λ r. r.rows.items };
+    ghost use Rattle.dl_values.specs.Cuts.{cut, IsCut};
+
+    ghost view = { λ r. cut 0 r.ends.items r.cells.items };
+
+    ghost invariant = { λ r. IsCut 0 r.ends.items r.cells.items };
 }
 
 impl Rows {
+    ghost use Rattle.std.specs.Prelude.{◌≡◌, ◌<◌, ◌==◌, OnOk, OnErr, ◌++◌, ◌∷◌, [], length, slice_index_or};
+
     /// No rows.
     pub fn new(alloc: Global) -> Rows
         ensures { result ≡ [] }
     {
         Rows {
-            rows: Vec::new(alloc),
+            ends: Vec::new(alloc),
+            cells: Vec::new(alloc),
+        }
+    }
+
+    /// Moves the cells of a row to the end, as a row. The row that is left has no cells, and keeps its room for the next.
+    /// After want of memory both stand as before.
+    pub fn append(&mut self, row: &mut Row) -> Result<(), NoMemory>
+        ensures ok { OnOk result (self.new ≡ self.old ++ row.old ∷ []) }
+        ensures emptied { OnOk result (row.new ≡ []) }
+        ensures err { OnErr result (self.new ≡ self.old) }
+        ensures kept { OnErr result (row.new ≡ row.old) }
+    {
+        let end = self.cells.as_slice().len() + row.cells().len();
+        self.ends.push(end)?;
+        match row.move_to(&mut self.cells) {
+            Ok(()) => Ok(()),
+            Err(e) => {
+                let _end = self.ends.pop();
+                Err(e)
+            }
         }
     }
 
@@ -35,22 +63,22 @@ impl Rows {
         ensures ok { OnOk result (self.new ≡ self.old ++ row ∷ []) }
         ensures err { OnErr result (self.new ≡ self.old) }
     {
-        self.rows.push(row)?;
-        Ok(())
+        let mut row = row;
+        self.append(&mut row)
     }
 
     /// How many rows there are.
     pub fn len(&self) -> usize
         ensures { result ≡ length self.now }
     {
-        self.rows.len()
+        self.ends.as_slice().len()
     }
 
     /// Whether there is no row.
     pub fn is_empty(&self) -> bool
         ensures { result ≡ (length self.now == 0) }
     {
-        self.rows.is_empty()
+        self.len() == 0
     }
 
     /// The cells of the row at a place.
@@ -58,6 +86,28 @@ impl Rows {
         requires { place < length self.now }
         ensures { result.now ≡ slice_index_or self.now place [] }
     {
-        self.rows[place].cells()
+        row_at(self.ends.as_slice(), self.cells.as_slice(), place)
     }
+}
+
+// Where the row at a place starts.
+fn start_at(ends: &[usize], place: usize) -> usize
+    requires { place < length ends.now }
+    ensures { result ≡ start_of 0 ends.now place }
+{
+    if place == 0 {
+        return 0;
+    }
+    ends[place - 1]
+}
+
+// The row at a place.
+fn row_at<'a>(ends: &[usize], cells: &'a [Cell], place: usize) -> &'a [Cell]
+    requires cut { IsCut 0 ends.now cells.now }
+    requires within { place < length ends.now }
+    ensures { result.now ≡ slice_index_or (cut 0 ends.now cells.now) place [] }
+{
+    let (front, _behind) = cells.split_at(ends[place]);
+    let (_before, row) = front.split_at(start_at(ends, place));
+    row
 }

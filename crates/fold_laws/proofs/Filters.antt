@@ -21,7 +21,7 @@ filter_swap p q (x ∷ xs) = go (filter_swap p q xs) (p x) (q x) refl refl
     go rest false false f g = ap (filter p) (filter_no q x xs g) ∙ rest ∙ sym (ap (filter q) (filter_no p x xs f))
 
 -- what all rows keep, those that pass keep
-filter_keeps : {X : Type 0} (P : X → Type 0) (p : X → Bool) (xs : List X) → AllByRecursion P xs → AllByRecursion P (filter p xs)
+pub filter_keeps : {X : Type 0} (P : X → Type 0) (p : X → Bool) (xs : List X) → AllByRecursion P xs → AllByRecursion P (filter p xs)
 filter_keeps P p [] a = tt
 filter_keeps P p (x ∷ xs) a = go (filter_keeps P p xs a.1) (p x) refl
   where

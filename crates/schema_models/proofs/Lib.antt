@@ -1,3 +1,8 @@
 mod CellTypeLemmas
 mod FaultLemmas
+mod FoldLemmas
 mod Lists
+mod MergeLemmas
+pub mod RowLengths
+pub mod RowMerges
+pub mod RowsStay

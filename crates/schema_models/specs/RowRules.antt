@@ -1,5 +1,5 @@
 -- Rows of a shape: one cell for each column, each of them one that its column may have.
-use Rattle.std.specs.Prelude.{Bool, true, false, ◌&&◌, IsTrue, List, [], ◌∷◌}
+use Rattle.std.specs.Prelude.{◌≡◌, Bool, true, false, ◌&&◌, List, [], ◌∷◌}
 use Rattle.dl_values.specs.declared.cell.Cell.{Cell}
 use Rattle.schema_models.specs.CellTypes.{fits_column}
 use Rattle.schema_models.specs.ShapeView.{ShapeView}
@@ -12,4 +12,4 @@ fits_columns _ _ = false
 
 -- a row is of a shape
 abbrev pub IsOfShape : ShapeView → List Cell → Type 0
-IsOfShape s row = IsTrue (fits_columns s.columns row)
+IsOfShape s row = fits_columns s.columns row ≡ true

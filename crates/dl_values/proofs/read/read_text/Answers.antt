@@ -1,4 +1,4 @@
-use Rattle.std.proofs.Common.{arith, sym}
+use Rattle.std.proofs.Common.{arith}
 use Rattle.dl_values.proofs.TextLemmas.{text_found, text_refused}
 use Rattle.dl_values.proofs.read.read_text.Goals as goal
 

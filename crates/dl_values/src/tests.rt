@@ -1,0 +1,129 @@
+// What each type reads and writes, how values are ordered, and rows in one list of cells.
+use crate::{Cell, ColType, Name, NoMemory, Row, Rows, Text, compare_rows, copy_row, write_cell};
+use std::alloc::Global;
+use std::cmp::Ordering;
+use std::test::Fail;
+
+// The text of the cell that a text is read as; nothing where the type has no such cell.
+fn read_back(alloc: Global, kind: ColType, text: &[u8]) -> Result<Vec<u8>, NoMemory> {
+    let mut out = Vec::new(alloc);
+    match kind.read(alloc, text) {
+        Ok(cell) => write_cell(&cell, &mut out)?,
+        Err(_) => out.extend_from_slice(b"none")?,
+    }
+    Ok(out)
+}
+
+#[test]
+fn integers_are_read_by_their_type(rt: HostRuntime) -> Result<(), Fail> {
+    let alloc = rt.alloc();
+    let table: [(ColType, &[u8], &[u8]); 26] = [
+        (ColType::TinyInt, b"127", b"127"),
+        (ColType::TinyInt, b"128", b"none"),
+        (ColType::TinyInt, b"-128", b"-128"),
+        (ColType::TinyInt, b"-129", b"none"),
+        (ColType::SmallInt, b"32767", b"32767"),
+        (ColType::SmallInt, b"32768", b"none"),
+        (ColType::Int, b"2147483647", b"2147483647"),
+        (ColType::Int, b"2147483648", b"none"),
+        (ColType::Int, b"-2147483648", b"-2147483648"),
+        (ColType::Int, b"-2147483649", b"none"),
+        (ColType::BigInt, b"9223372036854775807", b"9223372036854775807"),
+        (ColType::BigInt, b"9223372036854775808", b"none"),
+        (ColType::BigInt, b"-9223372036854775808", b"-9223372036854775808"),
+        (ColType::BigInt, b"-9223372036854775809", b"none"),
+        (ColType::BigInt, b"99999999999999999999999999", b"none"),
+        (ColType::BigInt, b"000000000000000000000000000007", b"7"),
+        (ColType::Int, b" 7 ", b"7"),
+        (ColType::Int, b"+7", b"7"),
+        (ColType::Int, b"-0", b"0"),
+        (ColType::Int, b"+ 7", b"none"),
+        (ColType::Int, b"+", b"none"),
+        (ColType::Int, b"-", b"none"),
+        (ColType::Int, b"", b"none"),
+        (ColType::Int, b"1a", b"none"),
+        (ColType::Int, b"1 2", b"none"),
+        (ColType::Int, b"\t7", b"none"),
+    ];
+    for (kind, text, wanted) in table {
+        let got = read_back(alloc, kind, text)?;
+        assert_eq!(rt; got.as_slice(), wanted);
+    }
+    Ok(())
+}
+
+#[test]
+fn dates_and_texts_are_read_by_their_type(rt: HostRuntime) -> Result<(), Fail> {
+    let alloc = rt.alloc();
+    let table: [(ColType, &[u8], &[u8]); 16] = [
+        (ColType::Date, b"2024-02-29", b"2024-02-29"),
+        (ColType::Date, b"2023-02-29", b"none"),
+        (ColType::Date, b"1900-02-29", b"none"),
+        (ColType::Date, b"2000-02-29", b"2000-02-29"),
+        (ColType::Date, b"0000-01-01", b"0000-01-01"),
+        (ColType::Date, b"9999-12-31", b"9999-12-31"),
+        (ColType::Date, b" 2024-04-30 ", b"2024-04-30"),
+        (ColType::Date, b"2024-04-31", b"none"),
+        (ColType::Date, b"2024-13-01", b"none"),
+        (ColType::Date, b"2024-1-01", b"none"),
+        (ColType::Date, b"2024/01/01", b"none"),
+        (ColType::Varchar(4), b" ab ", b" ab "),
+        (ColType::Varchar(4), b"abcde", b"none"),
+        (ColType::Varchar(4), "é é".as_bytes(), b"none"),
+        (ColType::Varchar(4), b"\xff", b"none"),
+        (ColType::Varchar(30), b"a text of more than 15 bytes", b"a text of more than 15 bytes"),
+    ];
+    for (kind, text, wanted) in table {
+        let got = read_back(alloc, kind, text)?;
+        assert_eq!(rt; got.as_slice(), wanted);
+    }
+    Ok(())
+}
+
+#[test]
+fn rows_are_ordered_by_their_first_difference(rt: HostRuntime) -> Result<(), Fail> {
+    let alloc = rt.alloc();
+    let mut low = Row::new(alloc);
+    low.push(Cell::Null)?;
+    low.push(Cell::Int(9))?;
+    let mut high = Row::with_room(alloc, 1)?;
+    high.push(Cell::Int(-5))?;
+    assert_eq!(rt; compare_rows(&low, &high), Ordering::Less);
+    assert_eq!(rt; compare_rows(&high, &low), Ordering::Greater);
+    assert_eq!(rt; compare_rows(&low, &copy_row(alloc, &low)?), Ordering::Equal);
+    Ok(())
+}
+
+#[test]
+fn rows_of_any_width_stand_side_by_side(rt: HostRuntime) -> Result<(), Fail> {
+    let alloc = rt.alloc();
+    let mut rows = Rows::new(alloc);
+    let mut row = Row::new(alloc);
+    rows.append(&mut row)?;
+    row.push(Cell::Text(Text::new(alloc, b"of the second row")?))?;
+    row.push(Cell::Day(20_240_229))?;
+    rows.append(&mut row)?;
+    let mut third = Row::new(alloc);
+    third.push(Cell::Int(3))?;
+    rows.push(third)?;
+    assert_eq!(rt; rows.len(), 3);
+    assert_eq!(rt; row.cells().len(), 0);
+    assert_eq!(rt; rows.row(0).len(), 0);
+    assert_eq!(rt; rows.row(1).len(), 2);
+    assert_eq!(rt; rows.row(2).len(), 1);
+    let mut text = Vec::new(alloc);
+    for cell in rows.row(1) {
+        write_cell(cell, &mut text)?;
+    }
+    assert_eq!(rt; text.as_slice(), b"of the second row2024-02-29".as_slice());
+    Ok(())
+}
+
+#[test]
+fn names_are_compared_exactly(rt: HostRuntime) -> Result<(), Fail> {
+    let alloc = rt.alloc();
+    let name = Name::new(alloc, b"Orders")?;
+    assert_eq!(rt; name, name.copy(alloc)?);
+    assert_ne!(rt; name, Name::new(alloc, b"orders")?);
+    Ok(())
+}
