@@ -311,3 +311,12 @@ story_happened (e ∷ Js) = ap (λ (l : List Event). e ∷ l) (story_happened Js
 -- The story of a journal exists, and agrees with the history and an opening.
 pub reopens : (H : List Entry) → Legal H → IsStory (journal_of H) × Agrees (event.Opened ∷ happened H) (happened (story (journal_of H)))
 reopens H l = let g = (kept H l).good in (g.story, subst (λ (Js : List Event). Agrees (event.Opened ∷ happened H) Js) (sym (story_happened (journal_of H))) (agreement (happened H) g.sound))
+
+-- A story is legal.
+all_told : (Es : List Event) → IsAllTold (story Es)
+all_told [] = tt
+all_told (e ∷ Es) = all_told Es
+
+pub stories_legal : (Es : List Event) → IsStory Es → Legal (story Es)
+stories_legal [] h = tt
+stories_legal (e ∷ Es) h = (subst (λ (Js : List Event). Follows Js e) (sym (story_happened Es)) h.0, all_told Es, stories_legal Es h.1)

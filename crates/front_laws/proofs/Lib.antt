@@ -1,7 +1,6 @@
 pub mod Lists
 pub mod Keeps
 pub mod Openings
-pub mod Marks
 pub mod Tidying
 pub mod Following
 pub mod Acting
@@ -10,3 +9,7 @@ pub mod Histories
 pub mod Places
 pub mod Published
 pub mod Seats
+pub mod Stored
+pub mod Labels
+pub mod Standing
+pub mod Worked

@@ -4,3 +4,6 @@
 mod encoded_rows;
 
 pub use encoded_rows::EncodedRows;
+
+#[cfg(test)]
+mod tests;

@@ -8,3 +8,6 @@ mod part_def;
 pub use layout::Layout;
 pub use layout_error::LayoutError;
 pub use part_def::{Bounds, PartDef};
+
+#[cfg(test)]
+mod tests;
