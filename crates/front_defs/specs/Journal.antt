@@ -17,7 +17,7 @@ use Rattle.front_defs.specs.declared.history.Entry.{Entry}
 use Rattle.front_defs.specs.declared.history.Entry.TheVariants.{Told}
 use Rattle.schema_models.specs.Names.{is_name}
 use Rattle.front_defs.specs.Names.{same, is_label, auto_label}
-use Rattle.front_defs.specs.Stored.{are_rows_of}
+use Rattle.front_defs.specs.Stored.{AreRowsOf}
 use Rattle.front_defs.specs.Defines.{layout_fault}
 use Rattle.front_defs.specs.Ids.{range_of, next_of, told_ids, range_size}
 use Rattle.front_defs.specs.Catalogue.{has_db, table_named, table_at, databases_of, last_table_of, tables_of}
@@ -74,7 +74,7 @@ pub record FollowsLoad (Es : List Event) (s : LoadSubmitted) (t : Table) : Type 
   pub label : is_load_label s.txn s.label ≡ true
   pub free : list_any (hinders s.txn t.db s.label) (txns_of Es) ≡ false
   pub schema : s.schema ≡ t.schema
-  pub rows : are_rows_of t.shape s.rows ≡ true
+  pub rows : AreRowsOf t.shape s.rows
 
 -- A record follows the ones before it.
 abbrev pub Follows : List Event → Event → Type 0

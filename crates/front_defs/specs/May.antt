@@ -14,7 +14,7 @@ use Rattle.front_defs.specs.declared.reply.Reply.TheVariants as reply
 use Rattle.front_defs.specs.declared.history.Entry.{Entry}
 use Rattle.front_defs.specs.declared.history.Entry.TheVariants.{Told, Made}
 use Rattle.schema_models.specs.Folds.{fold_of}
-use Rattle.front_defs.specs.Stored.{are_rows_of}
+use Rattle.front_defs.specs.Stored.{AreRowsOf}
 
 -- it has one member, which has this
 abbrev pub Only : {X : Type 0} → List X → (X → Type 0) → Type 0
@@ -39,7 +39,7 @@ MappedOf base rows (Sets sets) = SetsOf base rows sets
 -- what the building of a load makes of a plan and rows of its base: the base is the only target so far
 pub record IsBuilt (plan : Plan) (built : Built) : Type 0 where
   pub plan_is : built.plan ≡ plan
-  pub rows : are_rows_of plan.base built.rows ≡ true
+  pub rows : AreRowsOf plan.base built.rows
   pub targets : Only built.targets (MappedOf plan.base built.rows)
 
 -- the reply began that transaction, and the load was built by its plan

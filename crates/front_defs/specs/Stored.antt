@@ -1,8 +1,8 @@
 -- The rows of a table: its base, the lists that are stored, and its versions (Apache Doris documentation, "Data Models", "Rowset").
 use Rattle.std.specs.Prelude.{ℕ, ◌+◌, Bool, true, false, cond, ◌&&◌, List, [], ◌∷◌, ◌++◌, Option, Some, None, map, nat_eq, length}
-use Rattle.std.specs.List.{list_all}
+use Rattle.std.specs.List.{AllByRecursion}
 use Rattle.dl_values.specs.declared.cell.Cell.{Cell}
-use Rattle.schema_models.specs.RowRules.{fits_columns}
+use Rattle.schema_models.specs.RowRules.{IsOfShape}
 use Rattle.schema_models.specs.ShapeView.{ShapeView}
 use Rattle.front_defs.specs.declared.event.Event.{Event}
 use Rattle.front_defs.specs.declared.event.Event.TheVariants as event
@@ -13,8 +13,8 @@ use Rattle.front_defs.specs.Catalogue.{last_table_of, table_at, tables_of}
 use Rattle.front_defs.specs.Transactions.{txn_at, txns_of}
 
 -- each row is of the shape
-abbrev pub are_rows_of : ShapeView → List (List Cell) → Bool
-are_rows_of s rows = list_all (fits_columns s.columns) rows
+abbrev pub AreRowsOf : ShapeView → List (List Cell) → Type 0
+AreRowsOf s rows = AllByRecursion (IsOfShape s) rows
 
 -- the rows that a load brings to a table: none where it is of another table
 abbrev pub brought : ℕ → Option Txn → List (List Cell)

@@ -33,7 +33,7 @@ use Rattle.front_defs.specs.Names.{same, is_label, auto_label}
 use Rattle.front_defs.specs.Ids.{range_of, next_of, told_ids, range_size}
 use Rattle.front_defs.specs.Catalogue.{has_db, is_named, table_named, table_at, db_in, db_of, databases_of, tables_of}
 use Rattle.front_defs.specs.Transactions.{is_prepare, is_precommitted, is_aborted, txn_at, txn_by, holds, label_of, due, txns_of}
-use Rattle.front_defs.specs.Stored.{are_rows_of}
+use Rattle.front_defs.specs.Stored.{AreRowsOf}
 use Rattle.front_defs.specs.Defines.{shape_by, layout_by, buckets_by, key_fault, layout_fault, def_fault}
 use Rattle.front_defs.specs.Answer.{most, label_for, bad_label, used, refused_by, refused_def, submit_refusals, abort_refusals, refusals}
 use Rattle.front_defs.specs.History.{is_told, journal, new_range, begins, submits, aborts, publishes, acted}
@@ -228,7 +228,7 @@ prepare_told state.Aborted b h e = absurd (cc)
 
 -- the rows of a submitted load are of its table
 abbrev pub Shaped : List Event → Command → Type 0
-Shaped Es (command.Submit txn built at) = IfSome (txn_at txn (txns_of Es)) (λ x. There (table_at x.table (tables_of Es)) (λ b. are_rows_of b.shape built.rows ≡ true))
+Shaped Es (command.Submit txn built at) = IfSome (txn_at txn (txns_of Es)) (λ x. There (table_at x.table (tables_of Es)) (λ b. AreRowsOf b.shape built.rows))
 Shaped Es _ = Unit {0}
 
 there_both : {X : Type 0} (o : Option X) (P Q R : X → Type 0) → ((x : X) → P x → Q x → R x) → There o P → There o Q → There o R
@@ -242,7 +242,7 @@ home_db (Some b) db schema h = h.0
 abbrev load_now : List (List Cell) → ℕ → Txn → LoadSubmitted
 load_now rows at x = record { txn = x.id; table = x.table; label = x.label; at = at; two_phase = x.two_phase; schema = x.schema; rows = rows }
 
-submits_now : (Es : List Event) (id : ℕ) (rows : List (List Cell)) (at : ℕ) (x : Txn) → Tidy Es → txn_at id (txns_of Es) ≡ Some x → x.state ≡ state.Prepare → There (table_at x.table (tables_of Es)) (λ b. are_rows_of b.shape rows ≡ true) → HappenAll (event.LoadSubmitted (load_now rows at x) ∷ []) Es
+submits_now : (Es : List Event) (id : ℕ) (rows : List (List Cell)) (at : ℕ) (x : Txn) → Tidy Es → txn_at id (txns_of Es) ≡ Some x → x.state ≡ state.Prepare → There (table_at x.table (tables_of Es)) (λ b. AreRowsOf b.shape rows) → HappenAll (event.LoadSubmitted (load_now rows at x) ∷ []) Es
 submits_now Es id rows at x k f is shaped =
     let same_id : Txn → Bool = λ u. nat_eq u.id id in
     let told = prepare_told x.state x.told (each_found (λ u. Tells u.state u.told) same_id (txns_of Es) x k.tells f) is in
@@ -253,7 +253,7 @@ submits_now Es id rows at x k f is shaped =
       record {
         below = each_found (λ u. u.id < next_of Es) same_id (txns_of Es) x k.below f;
         new = sym known ∙ told;
-        home = there_both (table_at x.table (tables_of Es)) (IsHome x.db x.schema) (λ b. are_rows_of b.shape rows ≡ true) (λ b. (b.schema ≡ x.schema) × (are_rows_of b.shape rows ≡ true)) (λ b p q. (p.1, q)) home shaped;
+        home = there_both (table_at x.table (tables_of Es)) (IsHome x.db x.schema) (λ b. AreRowsOf b.shape rows) (λ b. (b.schema ≡ x.schema) × AreRowsOf b.shape rows) (λ b p q. (p.1, q)) home shaped;
         label = each_found (λ u. is_load_label u.id u.label ≡ true) same_id (txns_of Es) x k.labelled f;
         fits = subst (λ (z : List ℕ × List ℕ). Each (LabelFits x.id z) (txns_of Es)) key_is (label_fits id (txns_of Es) x k.ascends k.labels f (λ h. cc (is, h)));
       },
@@ -261,7 +261,7 @@ submits_now Es id rows at x k f is shaped =
       tt,
     )
 
-submit_happens : (Es : List Event) (id : ℕ) (rows : List (List Cell)) (at : ℕ) (o : Option Txn) → Tidy Es → txn_at id (txns_of Es) ≡ o → first_of (submit_refusals at o) ≡ None → IfSome o (λ x. There (table_at x.table (tables_of Es)) (λ b. are_rows_of b.shape rows ≡ true)) → HappenAll (submits rows at o) Es
+submit_happens : (Es : List Event) (id : ℕ) (rows : List (List Cell)) (at : ℕ) (o : Option Txn) → Tidy Es → txn_at id (txns_of Es) ≡ o → first_of (submit_refusals at o) ≡ None → IfSome o (λ x. There (table_at x.table (tables_of Es)) (λ b. AreRowsOf b.shape rows)) → HappenAll (submits rows at o) Es
 submit_happens Es id rows at None k f h shaped = tt
 submit_happens Es id rows at (Some x) k f h shaped =
     submits_now Es id rows at x k f (prepare_is x.state (not_false (is_prepare x.state) (not_refused (not (is_prepare x.state)) (reply.WrongState x.state) (none_first (refuse_if (not (is_prepare x.state)) (reply.WrongState x.state)) _ h).0))) shaped
@@ -314,15 +314,18 @@ acted_happens Es (command.CreateTable db table def if_not_exists) k shaped h =
     let i = none_first (option_map def_error.Shape (shape_fault (shape_by def).model (shape_by def).columns)) _ g.1 in
     let j = none_first (option_map def_error.Layout (layout_fault (shape_by def) def.hash (buckets_by def))) [] i.1 in
     let new = not_refused (is_some (table_named db table (tables_of Es))) (cond if_not_exists reply.Done reply.TableExists) b.0 in
-    one_event (event.TableMade (record { db = db; name = table; shape = shape_by def; layout = layout_by table def })) Es (is_some (table_named db table (tables_of Es))) new
-    (record {
-      known = not_false (has_db db (databases_of Es)) (not_refused (not (has_db db (databases_of Es))) reply.UnknownDb a.0);
-      named = not_false (is_name table) (not_refused (not (is_name table)) reply.BadName c.0);
-      new = new;
-      room = not_refused (nat_le most (length (tables_of Es))) reply.TooManyTables e.0;
-      shape = mapped_none def_error.Shape (shape_fault (shape_by def).model (shape_by def).columns) i.0;
-      layout = record { parts = refl; valid = mapped_none def_error.Layout (layout_fault (shape_by def) def.hash (buckets_by def)) j.0 };
-    }, tt, tt)
+    one_event (event.TableMade (record { db = db; name = table; shape = shape_by def; layout = layout_by table def })) Es (is_some (table_named db table (tables_of Es))) new (
+      record {
+        known = not_false (has_db db (databases_of Es)) (not_refused (not (has_db db (databases_of Es))) reply.UnknownDb a.0);
+        named = not_false (is_name table) (not_refused (not (is_name table)) reply.BadName c.0);
+        new = new;
+        room = not_refused (nat_le most (length (tables_of Es))) reply.TooManyTables e.0;
+        shape = mapped_none def_error.Shape (shape_fault (shape_by def).model (shape_by def).columns) i.0;
+        layout = record { parts = refl; valid = mapped_none def_error.Layout (layout_fault (shape_by def) def.hash (buckets_by def)) j.0 };
+      },
+      tt,
+      tt,
+    )
 acted_happens Es (command.Begin db table label two_phase at) k shaped h =
     let a = none_first (refuse_if (not (has_db db (databases_of Es))) reply.UnknownDb) _ h in
     let b = none_first (refuse_if (is_none (table_named db table (tables_of Es))) reply.UnknownTable) _ a.1 in

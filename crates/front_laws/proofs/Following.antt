@@ -15,7 +15,7 @@ use Rattle.front_defs.specs.Names.{same}
 use Rattle.front_defs.specs.Ids.{range_of, next_of, told_ids, range_size}
 use Rattle.front_defs.specs.Catalogue.{has_db, table_named, table_at, db_in, db_of, databases_of, tables_of}
 use Rattle.front_defs.specs.Transactions.{is_committed, is_aborted, txn_at, holds, has_lower, place_of, due, txns_of, places_of}
-use Rattle.front_defs.specs.Stored.{are_rows_of}
+use Rattle.front_defs.specs.Stored.{AreRowsOf}
 use Rattle.front_defs.specs.Answer.{most}
 use Rattle.front_defs.specs.History.{is_told, journal}
 use Rattle.front_defs.specs.Journal.{There, FollowsDb, FollowsTable, FollowsLoad, Follows, hinders, is_load_label, Agrees}
@@ -134,7 +134,7 @@ in_told Es id w t f is =
     match_is (txn_at id (filter (λ x. x.told) (txns_of Es))) w (λ x. x.state ≡ state.Precommitted)
     (sym (opening.found_told id (txns_of Es) (some_is (txn_at id (txns_of Es)) w (λ u. u.told ≡ true) f told)) ∙ f) is
 
-load_follows : (Gs : List Event) (s : LoadSubmitted) (o : Option Table) → There o (λ b. (b.schema ≡ s.schema) × (are_rows_of b.shape s.rows ≡ true)) → s.txn ≤ range_of Gs → list_any (nat_eq s.txn) (told_ids Gs) ≡ false → is_load_label s.txn s.label ≡ true → list_any (hinders s.txn (db_in o) s.label) (txns_of Gs) ≡ false → There o (FollowsLoad Gs s)
+load_follows : (Gs : List Event) (s : LoadSubmitted) (o : Option Table) → There o (λ b. (b.schema ≡ s.schema) × AreRowsOf b.shape s.rows) → s.txn ≤ range_of Gs → list_any (nat_eq s.txn) (told_ids Gs) ≡ false → is_load_label s.txn s.label ≡ true → list_any (hinders s.txn (db_in o) s.label) (txns_of Gs) ≡ false → There o (FollowsLoad Gs s)
 load_follows Gs s None h within new label free = h
 load_follows Gs s (Some b) h within new label free = record { within = within; new = new; label = label; free = free; schema = sym h.0; rows = h.1 }
 

@@ -26,7 +26,7 @@ use Rattle.front_defs.specs.declared.history.Entry.TheVariants.{Told, Made}
 use Rattle.front_defs.specs.Ids.{range_of, next_of, next_after, range_after, told_ids}
 use Rattle.front_defs.specs.Catalogue.{is_named, table_named, table_at, db_of, db_in, tables_of, last_table_of, new_table}
 use Rattle.front_defs.specs.Transactions.{is_aborted, txn_at, txns_of, changed, put_txn, submitted_txn, begun_txn, aborted_at, visible_at, places_of, holds, due}
-use Rattle.front_defs.specs.Stored.{are_rows_of}
+use Rattle.front_defs.specs.Stored.{AreRowsOf}
 use Rattle.front_defs.specs.Answer.{refusals, plan_of, Answer}
 use Rattle.front_defs.specs.History.{is_told, journal, new_range, begins, acted, Outcome, Well, Refused, Faulted, outcome, effect, effect_of, opening, happened}
 use Rattle.front_defs.specs.Journal.{There, FollowsLoad, Follows, hinders, journal_of, story, IsStory, Agrees}
@@ -120,14 +120,14 @@ no_cause c (Made x ∷ H) a h = a
 
 -- what a load that may be submitted has: its plan holds, and its rows are of the plan's base
 abbrev Plans : List Entry → Type 0
-Plans H = (txn : ℕ) (built : Built) (at : ℕ) → HasCause (command.Submit txn built at) H → PlanHolds (happened H) txn built.plan.base × (are_rows_of built.plan.base built.rows ≡ true)
+Plans H = (txn : ℕ) (built : Built) (at : ℕ) → HasCause (command.Submit txn built at) H → PlanHolds (happened H) txn built.plan.base × AreRowsOf built.plan.base built.rows
 
-there_rows : (o : Option Table) (base : ShapeView) (rows : List (List Cell)) → There o (λ b. b.shape ≡ base) → are_rows_of base rows ≡ true → There o (λ b. are_rows_of b.shape rows ≡ true)
+there_rows : (o : Option Table) (base : ShapeView) (rows : List (List Cell)) → There o (λ b. b.shape ≡ base) → AreRowsOf base rows → There o (λ b. AreRowsOf b.shape rows)
 there_rows None base rows h r = absurd h
-there_rows (Some b) base rows h r = subst (λ (s : ShapeView). are_rows_of s rows ≡ true) (sym h) r
+there_rows (Some b) base rows h r = subst (λ (s : ShapeView). AreRowsOf s rows) (sym h) r
 
 -- The rows that a command carries are of its table, also after an opening.
-found_shape : (Es : List Event) (id : ℕ) (built : Built) (o : Option Txn) → txn_at id (txns_of Es) ≡ o → PlanHolds Es id built.plan.base → are_rows_of built.plan.base built.rows ≡ true → IfSome o (λ x. There (table_at x.table (tables_of Es)) (λ b. are_rows_of b.shape built.rows ≡ true))
+found_shape : (Es : List Event) (id : ℕ) (built : Built) (o : Option Txn) → txn_at id (txns_of Es) ≡ o → PlanHolds Es id built.plan.base → AreRowsOf built.plan.base built.rows → IfSome o (λ x. There (table_at x.table (tables_of Es)) (λ b. AreRowsOf b.shape built.rows))
 found_shape Es id built None f p r = tt
 found_shape Es id built (Some x) f p r =
     there_rows (table_at x.table (tables_of Es)) built.plan.base built.rows (each_found (OfShape (tables_of Es) id built.plan.base) (λ u. nat_eq u.id id) (txns_of Es) x p.shaped f (found_id id (txns_of Es) x f)) r
@@ -196,10 +196,10 @@ planned_is : (txn : ℕ) (built : Built) (r : Reply) → PlannedBy txn built r �
 planned_is txn built (reply.Begun id plan) h = (plan, ap (λ (n : ℕ). reply.Begun n plan) (sym h.0), h.1)
 planned_is txn built _ h = absurd h
 
-built_rows : (plan : Plan) (built : Built) → IsBuilt plan built → are_rows_of built.plan.base built.rows ≡ true
-built_rows plan built h = subst (λ (p : Plan). are_rows_of p.base built.rows ≡ true) (sym h.plan_is) h.rows
+built_rows : (plan : Plan) (built : Built) → IsBuilt plan built → AreRowsOf built.plan.base built.rows
+built_rows plan built h = subst (λ (p : Plan). AreRowsOf p.base built.rows) (sym h.plan_is) h.rows
 
-new_plan : (c : Call) (H : List Entry) (txn : ℕ) (built : Built) → Good (happened H) → Answer (opening c.opened (happened H)) c.command c.reply ⊎ (c.reply ≡ reply.KeeperFault) → PlannedBy txn built c.reply → PlanHolds (happened (Made c ∷ H)) txn built.plan.base × (are_rows_of built.plan.base built.rows ≡ true)
+new_plan : (c : Call) (H : List Entry) (txn : ℕ) (built : Built) → Good (happened H) → Answer (opening c.opened (happened H)) c.command c.reply ⊎ (c.reply ≡ reply.KeeperFault) → PlannedBy txn built c.reply → PlanHolds (happened (Made c ∷ H)) txn built.plan.base × AreRowsOf built.plan.base built.rows
 new_plan c H txn built g (inr f) p = absurd (let k = planned_is txn built c.reply p in let z = k.1 in cc (z, f))
 new_plan c H txn built g (inl a) p =
     let k = planned_is txn built c.reply p in
@@ -211,8 +211,8 @@ new_plan c H txn built g (inl a) p =
 plans_call : (c : Call) (H : List Entry) → IsLegal c H → Good (happened H) → Plans H → Plans (Made c ∷ H)
 plans_call c H l g p txn built at cause =
     elim cause [
-      inl h ↦ new_plan c H txn built g l.answer h
-    | inr h ↦ let Es = opening c.opened (happened H) in let k = p txn built at h in (plans_on (effect Es c.command c.reply c.took) Es txn built.plan.base (went c H l g p) (opened_good c.opened (happened H) g) (opened_plan c.opened (happened H) txn built.plan.base g k.0), k.1)
+      | inl h ↦ new_plan c H txn built g l.answer h
+      | inr h ↦ let Es = opening c.opened (happened H) in let k = p txn built at h in (plans_on (effect Es c.command c.reply c.took) Es txn built.plan.base (went c H l g p) (opened_good c.opened (happened H) g) (opened_plan c.opened (happened H) txn built.plan.base g k.0), k.1)
     ]
 
 -- A told record that follows.
@@ -254,7 +254,7 @@ told_submits Es s None n is h = absurd h
 told_submits Es s (Some b) n is h = record {
   below = let k = h.within in omega (arith, k, n);
   new = h.new;
-  home = match_is (table_at s.table (tables_of Es)) b (λ b. (b.schema ≡ s.schema) × (are_rows_of b.shape s.rows ≡ true)) is (sym h.schema, h.rows);
+  home = match_is (table_at s.table (tables_of Es)) b (λ b. (b.schema ≡ s.schema) × AreRowsOf b.shape s.rows) is (sym h.schema, h.rows);
   label = h.label;
   fits = subst (λ (o : Option Table). Each (LabelFits s.txn (db_in o, s.label)) (txns_of Es)) (sym is) (each_imp (λ u. hinders s.txn b.db s.label u ≡ false) (LabelFits s.txn (b.db, s.label)) (told_fits s.txn b.db s.label) (txns_of Es) (any_none (hinders s.txn b.db s.label) (txns_of Es) h.free));
 }

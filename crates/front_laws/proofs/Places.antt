@@ -141,9 +141,11 @@ calm ts last id f keeps aborts e p =
     calm_one : (t : Txn) (b : Bool) → nat_eq t.id id ≡ b → (t.id ≡ id → (place_of t ≡ 0) × (one t ≡ 0)) → one (cond b (f t) t) ≡ one t
     calm_one t true e h = let z = h (eq_is t.id id e) in let a : one (f t) ≡ 0 = ap (λ (s : TxnState). cond (is_committed s) 1 0) (aborts t) in a ∙ sym z.1
     calm_one t false e h = refl
+
     calm_place : (t : Txn) (b : Bool) → nat_eq t.id id ≡ b → HasPlace t.state (place_of t) → (t.id ≡ id → (place_of t ≡ 0) × (one t ≡ 0)) → HasPlace (cond b (f t) t).state (place_of (cond b (f t) t))
     calm_place t true e h k = let z = k (eq_is t.id id e) in subst (λ (s : TxnState). HasPlace s (place_of (f t))) (sym (aborts t)) (keeps t ∙ z.0)
     calm_place t false e h k = h
+
     calm_state : (t : Txn) (b : Bool) → (cond b (f t) t).state ≡ state.Committed → t.state ≡ state.Committed
     calm_state t true i = absurd (let z = aborts t in cc (z, i))
     calm_state t false i = i
@@ -245,6 +247,7 @@ published_fits ts last id at w a found is low p =
     seen_place : (t : Txn) (b : Bool) → nat_eq t.id id ≡ b → HasPlace t.state (place_of t) → (t.id ≡ id → 1 ≤ place_of t) → HasPlace (cond b (visible_at at t) t).state (place_of (cond b (visible_at at t) t))
     seen_place t true e h k = k (eq_is t.id id e)
     seen_place t false e h k = h
+
     waits_still : (t : Txn) (b : Bool) → nat_eq t.id id ≡ b → (t.state ≡ state.Committed → place_of w ≤ place_of t) → ((t.id ≡ id → ⊥) → place_of t ≡ place_of w → ⊥) → last < place_of w + waiting ts → waiting (map (changed id (visible_at at)) ts) + 1 ≡ waiting ts → (cond b (visible_at at t) t).state ≡ state.Committed → last < place_of (cond b (visible_at at t) t) + waiting (map (changed id (visible_at at)) ts)
     waits_still t true e h k l c i = absurd (cc)
     waits_still t false e h k l c i = let g = h i in let n = k (eq_apart t.id id e) in omega (arith, g, n, l, c)

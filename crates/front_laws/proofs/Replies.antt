@@ -87,8 +87,8 @@ first_refused P (Some x ∷ os) Q r all m = inr (subst P (sym m) all.0)
 answered : (Es : List Event) (c : Command) (ok : Reply → Type 0) (r : Reply) → Answers (refusals Es c) ok r → outcome r ≡ Well → (first_of (refusals Es c) ≡ None) ⊎ (acted Es c ≡ [])
 answered Es c ok r a w =
     elim a [
-      inl e ↦ absurd (let z : outcome r ≡ Refused = ap outcome e in cc (z, w))
-    | inr m ↦ elim (first_refused (Stays Es c) (refusals Es c) (ok r) r (refused_stays Es c) m) [ inl h ↦ inl h | inr h ↦ inr (h w) ]
+      | inl e ↦ absurd (let z : outcome r ≡ Refused = ap outcome e in cc (z, w))
+      | inr m ↦ elim (first_refused (Stays Es c) (refusals Es c) (ok r) r (refused_stays Es c) m) [ inl h ↦ inl h | inr h ↦ inr (h w) ]
     ]
 
 pub went_well : (Es : List Event) (c : Command) (r : Reply) → Answer Es c r → outcome r ≡ Well → (first_of (refusals Es c) ≡ None) ⊎ (acted Es c ≡ [])
@@ -120,8 +120,8 @@ first_or P (Some x ∷ os) Q r all m = inr (subst P (sym m) all.0)
 all_not_begun : (os : List (Option Reply)) (all : AllSome NotBegun os) (ok : Reply → Type 0) (r : Reply) → Answers os ok r → is_begun r ≡ true → ok r
 all_not_begun os all ok r a b =
     elim a [
-      inl e ↦ absurd (let z : is_begun r ≡ false = ap is_begun e in cc (z, b))
-    | inr m ↦ elim (first_or NotBegun os (ok r) r all m) [ inl q ↦ q | inr n ↦ absurd (cc (n, b)) ]
+      | inl e ↦ absurd (let z : is_begun r ≡ false = ap is_begun e in cc (z, b))
+      | inr m ↦ elim (first_or NotBegun os (ok r) r all m) [ inl q ↦ q | inr n ↦ absurd (cc (n, b)) ]
     ]
 
 def_not_begun : (def : TableDef) → IfSome (refused_def def) NotBegun

@@ -14,7 +14,7 @@ use Rattle.front_defs.specs.declared.txn.Txn.{Txn}
 use Rattle.front_defs.specs.Ids.{range_of, next_of, told_ids}
 use Rattle.front_defs.specs.Catalogue.{table_at, db_in, db_of, tables_of, last_table_of, new_table}
 use Rattle.front_defs.specs.Transactions.{is_committed, txn_at, txns_of, changed, put_txn, begun_txn, submitted_txn, aborted_at, visible_at, places_of, place_of, has_lower, due}
-use Rattle.front_defs.specs.Stored.{are_rows_of}
+use Rattle.front_defs.specs.Stored.{AreRowsOf}
 use Rattle.front_defs.specs.Journal.{There, is_load_label}
 use Rattle.front_laws.specs.Tidy.{Each, Pairs, Ascends, Tells, label_key, OlderIsAborted, IsHome, HasHome, Tidy, LabelFits, Happens, last_begun}
 use Rattle.front_laws.proofs.Lists.{each_imp, always, each_filter, each_map, each_snoc, each_found, each_both, each_put, each_at, pairs_filter, pairs_map, pairs_snoc, ascends_put, ascends_map, labels_put, at_found, eq_is}
@@ -123,7 +123,7 @@ home_in : (o : Option Table) (schema : ℕ) (Q : Table → Type 0) → There o (
 home_in None schema Q h = h
 home_in (Some b) schema Q h = (refl, h.0)
 
-put_parts : (ts : List Txn) (ids : List ℕ) (next last : ℕ) (tables : List Table) (s : LoadSubmitted) → Parts ts ids next tables → s.txn < next → There (table_at s.table tables) (λ b. (b.schema ≡ s.schema) × (are_rows_of b.shape s.rows ≡ true)) → is_load_label s.txn s.label ≡ true → Each (LabelFits s.txn (db_of s.table tables, s.label)) ts → Parts (put_txn (submitted_txn s (db_of s.table tables) last) ts) (s.txn ∷ ids) next tables
+put_parts : (ts : List Txn) (ids : List ℕ) (next last : ℕ) (tables : List Table) (s : LoadSubmitted) → Parts ts ids next tables → s.txn < next → There (table_at s.table tables) (λ b. (b.schema ≡ s.schema) × AreRowsOf b.shape s.rows) → is_load_label s.txn s.label ≡ true → Each (LabelFits s.txn (db_of s.table tables, s.label)) ts → Parts (put_txn (submitted_txn s (db_of s.table tables) last) ts) (s.txn ∷ ids) next tables
 put_parts ts ids next last tables s p lt home label fits =
     let y = submitted_txn s (db_of s.table tables) last in
     record {
@@ -132,7 +132,7 @@ put_parts ts ids next last tables s p lt home label fits =
       labels = labels_put y ts p.ascends p.labels fits;
       below = each_put (λ u. u.id < next) y ts (each_imp (λ u. u.id < next) (λ u. (u.id ≡ s.txn → ⊥) → u.id < next) (λ u h _. h) ts p.below) lt;
       known = each_put (λ u. u.told ≡ list_any (nat_eq u.id) (s.txn ∷ ids)) y ts (each_imp (λ (u : Txn). u.told ≡ list_any (nat_eq u.id) ids) (λ (u : Txn). (u.id ≡ s.txn → ⊥) → u.told ≡ list_any (nat_eq u.id) (s.txn ∷ ids)) (λ (u : Txn) h n. rw (eq_apart u.id s.txn n) h) ts p.known) (rw (eq_self s.txn) refl);
-      homes = each_put (HasHome tables) y ts (each_imp (HasHome tables) (λ u. (u.id ≡ s.txn → ⊥) → HasHome tables u) (λ u h _. h) ts p.homes) (home_in (table_at s.table tables) s.schema (λ b. are_rows_of b.shape s.rows ≡ true) home);
+      homes = each_put (HasHome tables) y ts (each_imp (HasHome tables) (λ u. (u.id ≡ s.txn → ⊥) → HasHome tables u) (λ u h _. h) ts p.homes) (home_in (table_at s.table tables) s.schema (λ b. AreRowsOf b.shape s.rows) home);
       labelled = each_put (λ t. is_load_label t.id t.label ≡ true) y ts (each_imp (λ t. is_load_label t.id t.label ≡ true) (λ t. (t.id ≡ s.txn → ⊥) → is_load_label t.id t.label ≡ true) (λ u h _. h) ts p.labelled) label;
     }
 
@@ -191,10 +191,20 @@ pub tidy_on : (Es : List Event) (e : Event) → Tidy Es → Happens Es e → Tid
 tidy_on Es (event.DbMade d) t h = tidy_of (event.DbMade d) Es refl refl refl refl refl refl t (parts_of Es t)
 tidy_on Es (event.TableMade m) t h =
     let y = new_table m (last_table_of Es + 1) in
-    record { tells = t.tells; ascends = t.ascends; labels = t.labels; below = t.below; known = t.known; labelled = t.labelled; ids = t.ids; within = t.within; spent = t.spent;
+    record {
+      tells = t.tells;
+      ascends = t.ascends;
+      labels = t.labels;
+      below = t.below;
+      known = t.known;
+      labelled = t.labelled;
+      ids = t.ids;
+      within = t.within;
+      spent = t.spent;
       numbers = pairs_snoc (λ (a b : Table). a.number < b.number) (tables_of Es) y t.numbers (each_imp (λ (b : Table). b.number ≤ last_table_of Es) (λ (b : Table). b.number < last_table_of Es + 1) (λ b k. omega arith) (tables_of Es) t.numbered);
       numbered = each_snoc (λ (b : Table). b.number ≤ last_table_of Es + 1) (tables_of Es) y (each_imp (λ (b : Table). b.number ≤ last_table_of Es) (λ (b : Table). b.number ≤ last_table_of Es + 1) (λ b k. omega arith) (tables_of Es) t.numbered) (omega arith);
-      homes = each_imp (HasHome (tables_of Es)) (HasHome (tables_of Es ++ new_table m (last_table_of Es + 1) ∷ [])) (homes_later (new_table m (last_table_of Es + 1)) (tables_of Es)) (txns_of Es) t.homes }
+      homes = each_imp (HasHome (tables_of Es)) (HasHome (tables_of Es ++ new_table m (last_table_of Es + 1) ∷ [])) (homes_later (new_table m (last_table_of Es + 1)) (tables_of Es)) (txns_of Es) t.homes;
+    }
 tidy_on Es (event.RangeDrawn r) t h = record {
   tells = t.tells;
   ascends = t.ascends;

@@ -53,23 +53,22 @@ both_legal first second is also =
     (plain_legal _ _ (one_published first second) (inr refl) tt (λ e. cc) refl refl, (plain_legal _ _ (both_submitted first second) (inr refl) tt (λ e. cc) refl refl, (plain_legal _ _ (later_first second) (inr refl) (inr (inr (inl (refl, is)))) (λ e. cc) refl refl, (plain_legal _ _ both_begun (inr refl) (inl (refl, also)) (λ e. cc) refl refl, (plain_legal _ _ begun (inr refl) tt (λ e. cc) refl refl, begun_legal)))))
 
 pub faulted_legal : (built : Built) → IsBuilt (plan 1) built → Legal (faulted built true)
-faulted_legal built is =
-    (
-      record {
-        answer = inr refl;
-        may = inl (refl, is);
-        marks = record {
-          rose = refl;
-          fault = λ e. (refl, inr (record { well = refl; tells = refl }));
-          took = λ e. (refl, refl, record { well = refl; tells = refl });
-          opens_only = λ e. absurd (cc);
-          opens = λ e. absurd (cc);
-          later = omega arith;
-          counts = refl;
-        };
-      },
-      begun_legal,
-    )
+faulted_legal built is = (
+  record {
+    answer = inr refl;
+    may = inl (refl, is);
+    marks = record {
+      rose = refl;
+      fault = λ e. (refl, inr (record { well = refl; tells = refl }));
+      took = λ e. (refl, refl, record { well = refl; tells = refl });
+      opens_only = λ e. absurd (cc);
+      opens = λ e. absurd (cc);
+      later = omega arith;
+      counts = refl;
+    };
+  },
+  begun_legal,
+)
 
 -- what a snapshot of the table shows
 shows_rows : (b : Table) (base shown : List (List Cell)) (cost : ℕ) (r : Reply) → Shows b base cost r → b.shape ≡ shape_by def → base ≡ shown → ShowsRows shown r

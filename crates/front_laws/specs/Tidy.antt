@@ -10,7 +10,7 @@ use Rattle.front_defs.specs.declared.event.TxnBegun.{TxnBegun}
 use Rattle.front_defs.specs.declared.event.LoadSubmitted.{LoadSubmitted}
 use Rattle.front_defs.specs.declared.catalogue.Table.{Table}
 use Rattle.front_defs.specs.declared.txn.Txn.{Txn}
-use Rattle.front_defs.specs.Stored.{are_rows_of}
+use Rattle.front_defs.specs.Stored.{AreRowsOf}
 use Rattle.front_defs.specs.Ids.{range_of, next_of, told_ids, range_size}
 use Rattle.front_defs.specs.Catalogue.{table_at, db_of, last_table_of, tables_of}
 use Rattle.front_defs.specs.Transactions.{is_committed, is_visible, txn_at, place_of, due, txns_of, places_of}
@@ -91,7 +91,7 @@ pub record BeginsNow (Es : List Event) (b : TxnBegun) : Type 0 where
 pub record SubmitsNow (Es : List Event) (s : LoadSubmitted) : Type 0 where
   pub below : s.txn < next_of Es
   pub new : list_any (nat_eq s.txn) (told_ids Es) ≡ false
-  pub home : There (table_at s.table (tables_of Es)) (λ b. (b.schema ≡ s.schema) × (are_rows_of b.shape s.rows ≡ true))
+  pub home : There (table_at s.table (tables_of Es)) (λ b. (b.schema ≡ s.schema) × AreRowsOf b.shape s.rows)
   pub label : is_load_label s.txn s.label ≡ true
   pub fits : Each (LabelFits s.txn (db_of s.table (tables_of Es), s.label)) (txns_of Es)
 
