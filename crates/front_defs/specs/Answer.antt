@@ -1,8 +1,7 @@
 -- Which reply answers which command: the first refusal that holds, in the order written, or else the Ok.
-use Rattle.std.specs.Prelude.{◌≡◌, ℕ, ◌+◌, ◌≤◌, Bool, true, false, cond, not, ◌&&◌, List, [], ◌∷◌, Option, Some, None, is_some, is_none, map, length, nat_le}
+use Rattle.std.specs.Prelude.{◌≡◌, ℕ, ◌+◌, ◌≤◌, Bool, cond, not, ◌&&◌, List, [], ◌∷◌, Option, Some, None, is_some, is_none, map, length, nat_le}
 use Rattle.std.specs.List.{flat_map}
 use Rattle.dl_values.specs.declared.cell.Cell.{Cell}
-use Rattle.labels.specs.declared.txn_state.TxnState.{TxnState}
 use Rattle.sql_text.specs.declared.table_def.TableDef.{TableDef}
 use Rattle.shadow_writes.specs.declared.plan.Plan.{Plan}
 use Rattle.table_defs.specs.declared.def_error.DefError.{DefError}

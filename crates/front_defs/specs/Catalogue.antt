@@ -1,7 +1,6 @@
 -- The catalogue: the databases and the live tables, each in the order of their making (Apache Doris documentation, "CREATE DATABASE", "CREATE TABLE").
 use Rattle.std.specs.Prelude.{ℕ, ◌+◌, Bool, ◌&&◌, List, [], ◌∷◌, ◌++◌, Option, Some, None, find, nat_eq}
 use Rattle.std.specs.List.{list_any}
-use Rattle.schema_models.specs.ShapeView.{ShapeView}
 use Rattle.front_defs.specs.declared.event.Event.{Event}
 use Rattle.front_defs.specs.declared.event.Event.TheVariants as event
 use Rattle.front_defs.specs.declared.event.TableMade.{TableMade}

@@ -9,7 +9,6 @@ use Rattle.front_defs.specs.declared.command.Command.{Command}
 use Rattle.front_defs.specs.declared.command.Command.TheVariants as command
 use Rattle.front_defs.specs.declared.reply.Reply.{Reply}
 use Rattle.front_defs.specs.declared.reply.Reply.TheVariants as reply
-use Rattle.front_defs.specs.declared.history.Call.{Call}
 use Rattle.front_defs.specs.declared.history.Entry.{Entry}
 use Rattle.front_defs.specs.declared.history.Entry.TheVariants.{Told, Made}
 use Rattle.front_defs.specs.Ids.{range_of, next_of, range_size}

@@ -1,5 +1,5 @@
 -- What a seat may give: a load is submitted as the plan of its Begin says, and built from its rows as that plan says.
-use Rattle.std.specs.Prelude.{◌≡◌, ℕ, Bool, true, List, [], ◌∷◌, ◌⊎◌}
+use Rattle.std.specs.Prelude.{◌≡◌, ℕ, List, [], ◌∷◌, ◌⊎◌}
 use Rattle.dl_values.specs.declared.cell.Cell.{Cell}
 use Rattle.schema_models.specs.ShapeView.{ShapeView}
 use Rattle.shadow_writes.specs.declared.plan.Plan.{Plan}

@@ -1,5 +1,5 @@
 -- The rows of a table: its base, the lists that are stored, and its versions (Apache Doris documentation, "Data Models", "Rowset").
-use Rattle.std.specs.Prelude.{ℕ, ◌+◌, Bool, true, false, cond, ◌&&◌, List, [], ◌∷◌, ◌++◌, Option, Some, None, map, nat_eq, length}
+use Rattle.std.specs.Prelude.{ℕ, ◌+◌, cond, List, [], ◌∷◌, ◌++◌, Option, Some, None, map, nat_eq, length}
 use Rattle.std.specs.List.{AllByRecursion}
 use Rattle.dl_values.specs.declared.cell.Cell.{Cell}
 use Rattle.schema_models.specs.RowRules.{IsOfShape}

@@ -1,5 +1,5 @@
 -- Transactions: their states, moments, labels and places (Apache Doris documentation, "Stream Load", "SHOW TRANSACTION"; places, moments and what is kept are this project's own).
-use Rattle.std.specs.Prelude.{ℕ, ◌+◌, Bool, true, false, cond, not, ◌&&◌, List, [], ◌∷◌, ◌++◌, Option, Some, None, map, filter, find, reverse, nat_eq, nat_lt, nat_le, unwrap_or, count_by}
+use Rattle.std.specs.Prelude.{ℕ, ◌+◌, Bool, true, false, cond, not, ◌&&◌, List, [], ◌∷◌, ◌++◌, Option, Some, None, map, filter, find, reverse, nat_eq, nat_lt, unwrap_or, count_by}
 use Rattle.std.specs.List.{list_any}
 use Rattle.labels.specs.declared.txn_state.TxnState.{TxnState}
 use Rattle.labels.specs.declared.txn_state.TxnState.TheVariants as state

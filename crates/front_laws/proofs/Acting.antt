@@ -1,5 +1,5 @@
 -- What a command makes happen that is answered well may happen.
-use Rattle.std.proofs.Common.{◌≡◌, ℕ, ◌+◌, ◌≤◌, ◌<◌, Bool, true, false, cond, not, ◌&&◌, ◌||◌, List, [], ◌∷◌, ◌++◌, Option, Some, None, IfSome, MatchOption, ◌⊎◌, inl, inr, refl, sym, ◌∙◌, ap, arith, subst, find, reverse, is_some, is_none}
+use Rattle.std.proofs.Common.{◌≡◌, ℕ, ◌+◌, ◌≤◌, ◌<◌, Bool, true, false, cond, not, ◌&&◌, ◌||◌, List, [], ◌∷◌, ◌++◌, Option, Some, None, IfSome, ◌⊎◌, inl, inr, refl, sym, ◌∙◌, ap, arith, subst, find, reverse, is_some, is_none}
 use Rattle.std.proofs.lemmas.Bool.Decides.{nat_tests}
 use Rattle.std.proofs.lemmas.Grind.{reverse_onto}
 use Rattle.std.proofs.lemmas.Slice.Eq.{bytes_eq-Decides}
@@ -13,13 +13,11 @@ use Rattle.schema_models.specs.Faults.{refuse_if, first_of}
 use Rattle.schema_models.specs.Names.{is_name}
 use Rattle.schema_models.specs.ShapeRules.{shape_fault}
 use Rattle.sql_text.specs.declared.table_def.TableDef.{TableDef}
-use Rattle.shadow_writes.specs.declared.built.Built.{Built}
 use Rattle.table_defs.specs.declared.def_error.DefError.{DefError}
 use Rattle.table_defs.specs.declared.def_error.DefError.TheVariants as def_error
 use Rattle.front_defs.specs.declared.event.Event.{Event}
 use Rattle.front_defs.specs.declared.event.Event.TheVariants as event
 use Rattle.front_defs.specs.declared.event.TxnBegun.{TxnBegun}
-use Rattle.front_defs.specs.declared.event.TableMade.{TableMade}
 use Rattle.front_defs.specs.declared.event.LoadSubmitted.{LoadSubmitted}
 use Rattle.front_defs.specs.declared.catalogue.Table.{Table}
 use Rattle.front_defs.specs.declared.txn.Txn.{Txn}
@@ -27,7 +25,6 @@ use Rattle.front_defs.specs.declared.command.TxnKey.{TxnKey}
 use Rattle.front_defs.specs.declared.command.TxnKey.TheVariants as key
 use Rattle.front_defs.specs.declared.command.Command.{Command}
 use Rattle.front_defs.specs.declared.command.Command.TheVariants as command
-use Rattle.front_defs.specs.declared.reply.Reply.{Reply}
 use Rattle.front_defs.specs.declared.reply.Reply.TheVariants as reply
 use Rattle.front_defs.specs.Names.{same, is_label, auto_label}
 use Rattle.front_defs.specs.Ids.{range_of, next_of, told_ids, range_size}
@@ -38,9 +35,9 @@ use Rattle.front_defs.specs.Defines.{shape_by, layout_by, buckets_by, key_fault,
 use Rattle.front_defs.specs.Answer.{most, label_for, bad_label, used, refused_by, refused_def, submit_refusals, abort_refusals, refusals}
 use Rattle.front_defs.specs.History.{is_told, journal, new_range, begins, submits, aborts, publishes, acted}
 use Rattle.front_defs.specs.Journal.{There, is_load_label}
-use Rattle.front_laws.specs.Tidy.{Each, Pairs, Ascends, Tells, Tidy, IsHome, HasHome, OlderIsAborted, label_key, LabelFits, BeginsNow, Happens, HappenAll, last_begun}
-use Rattle.front_laws.proofs.Lists.{each_imp, each_both, each_found, each_append, always, found_id, label_fits, eq_is}
-use Rattle.front_laws.proofs.Following.{held_key, key_held, there_imp, match_is}
+use Rattle.front_laws.specs.Tidy.{Each, Pairs, Ascends, Tells, Tidy, IsHome, HasHome, OlderIsAborted, label_key, LabelFits, BeginsNow, HappenAll, last_begun}
+use Rattle.front_laws.proofs.Lists.{each_imp, each_both, each_found, each_append, found_id, label_fits}
+use Rattle.front_laws.proofs.Following.{held_key, key_held, match_is}
 use Rattle.front_laws.proofs.Tidying.{passes, and_left}
 
 -- Where no refusal holds.

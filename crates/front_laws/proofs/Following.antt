@@ -1,5 +1,5 @@
 -- Each record of a legal history follows the ones before it.
-use Rattle.std.proofs.Common.{◌≡◌, ℕ, ◌+◌, ◌≤◌, ◌<◌, Bool, true, false, cond, not, ◌&&◌, ◌||◌, List, [], ◌∷◌, Option, Some, None, IfSome, MatchOption, inl, inr, refl, sym, ◌∙◌, ap, ap₂, arith, subst, find}
+use Rattle.std.proofs.Common.{◌≡◌, ℕ, ◌+◌, ◌≤◌, ◌<◌, Bool, true, false, cond, not, ◌&&◌, ◌||◌, List, [], ◌∷◌, Option, Some, None, IfSome, inl, inr, refl, sym, ◌∙◌, ap, ap₂, arith, subst, find}
 use Rattle.std.proofs.lemmas.Bool.Decides.{nat_tests}
 use Rattle.std.proofs.lemmas.Slice.Eq.{bytes_eq-Decides}
 use Rattle.std.specs.Prelude.{filter, nat_eq, nat_lt, nat_le, is_some, length}
@@ -12,15 +12,15 @@ use Rattle.front_defs.specs.declared.event.LoadSubmitted.{LoadSubmitted}
 use Rattle.front_defs.specs.declared.catalogue.Table.{Table}
 use Rattle.front_defs.specs.declared.txn.Txn.{Txn}
 use Rattle.front_defs.specs.Names.{same}
-use Rattle.front_defs.specs.Ids.{range_of, next_of, told_ids, range_size}
-use Rattle.front_defs.specs.Catalogue.{has_db, table_named, table_at, db_in, db_of, databases_of, tables_of}
-use Rattle.front_defs.specs.Transactions.{is_committed, is_aborted, txn_at, holds, has_lower, place_of, due, txns_of, places_of}
+use Rattle.front_defs.specs.Ids.{range_of, told_ids, range_size}
+use Rattle.front_defs.specs.Catalogue.{has_db, table_named, table_at, db_in, db_of, tables_of}
+use Rattle.front_defs.specs.Transactions.{is_committed, is_aborted, txn_at, holds, has_lower, place_of, due, txns_of}
 use Rattle.front_defs.specs.Stored.{AreRowsOf}
 use Rattle.front_defs.specs.Answer.{most}
-use Rattle.front_defs.specs.History.{is_told, journal}
-use Rattle.front_defs.specs.Journal.{There, FollowsDb, FollowsTable, FollowsLoad, Follows, hinders, is_load_label, Agrees}
-use Rattle.front_laws.specs.Tidy.{Each, Tells, Tidy, LabelFits, label_key, Happens, Fits, Sound}
-use Rattle.front_laws.proofs.Lists.{each_imp, each_both, each_passed, alone, always, eq_is}
+use Rattle.front_defs.specs.History.{is_told}
+use Rattle.front_defs.specs.Journal.{There, FollowsLoad, Follows, hinders, is_load_label, Agrees}
+use Rattle.front_laws.specs.Tidy.{Each, Tells, Tidy, LabelFits, label_key, Happens, Fits}
+use Rattle.front_laws.proofs.Lists.{each_imp, each_both, each_passed, alone}
 use Rattle.front_laws.proofs.Openings as opening
 use Rattle.front_laws.proofs.Tidying.{found_told, told_precommitted, told_committed, due_is, due_found, and_left}
 

@@ -1,9 +1,7 @@
 -- From histories to what happened.
-use Rattle.std.proofs.Common.{◌≡◌, ℕ, ◌+◌, ◌≤◌, ◌<◌, Bool, true, false, cond, not, ◌&&◌, ◌||◌, List, [], ◌∷◌, ◌++◌, Option, Some, None, IfSome, MatchOption, ◌⊎◌, inl, inr, refl, sym, ◌∙◌, ap, arith, subst, find}
+use Rattle.std.proofs.Common.{◌≡◌, ℕ, ◌+◌, ◌<◌, Bool, true, false, cond, not, ◌&&◌, ◌||◌, List, [], ◌∷◌, ◌++◌, Option, Some, None, IfSome, ◌⊎◌, inl, inr, refl, sym, ◌∙◌, ap, arith, subst}
 use Rattle.std.proofs.lemmas.Bool.Decides.{nat_tests}
-use Rattle.std.proofs.lemmas.Slice.Eq.{bytes_eq-Decides}
-use Rattle.std.specs.Prelude.{filter, nat_eq, nat_lt, map}
-use Rattle.std.specs.List.{list_any}
+use Rattle.std.specs.Prelude.{nat_eq, nat_lt, map}
 use Rattle.dl_values.specs.declared.cell.Cell.{Cell}
 use Rattle.schema_models.specs.ShapeView.{ShapeView}
 use Rattle.schema_models.specs.Faults.{first_of}
@@ -23,21 +21,21 @@ use Rattle.front_defs.specs.declared.reply.Reply.TheVariants as reply
 use Rattle.front_defs.specs.declared.history.Call.{Call}
 use Rattle.front_defs.specs.declared.history.Entry.{Entry}
 use Rattle.front_defs.specs.declared.history.Entry.TheVariants.{Told, Made}
-use Rattle.front_defs.specs.Ids.{range_of, next_of, next_after, range_after, told_ids}
+use Rattle.front_defs.specs.Ids.{range_of, next_of, next_after, range_after}
 use Rattle.front_defs.specs.Catalogue.{is_named, table_named, table_at, db_of, db_in, tables_of, last_table_of, new_table}
-use Rattle.front_defs.specs.Transactions.{is_aborted, txn_at, txns_of, changed, put_txn, submitted_txn, begun_txn, aborted_at, visible_at, places_of, holds, due}
+use Rattle.front_defs.specs.Transactions.{is_aborted, txn_at, txns_of, changed, submitted_txn, begun_txn, aborted_at, visible_at, places_of, due}
 use Rattle.front_defs.specs.Stored.{AreRowsOf}
 use Rattle.front_defs.specs.Answer.{refusals, plan_of, Answer}
 use Rattle.front_defs.specs.History.{is_told, journal, new_range, begins, acted, Outcome, Well, Refused, Faulted, outcome, effect, effect_of, opening, happened}
 use Rattle.front_defs.specs.Journal.{There, FollowsLoad, Follows, hinders, journal_of, story, IsStory, Agrees}
 use Rattle.front_defs.specs.May.{May, HasCause, PlannedBy, IsBuilt}
-use Rattle.front_defs.specs.Legal.{Legal, IsLegal, IsAllTold, Appends}
-use Rattle.front_laws.specs.Tidy.{Each, Tidy, LabelFits, label_key, Happens, IsKept, HappenAll, Sound, PlanHolds, last_begun, SubmitsNow}
-use Rattle.front_laws.proofs.Lists.{each_imp, each_filter, each_map, each_snoc, each_found, each_put, always, found_id, eq_is}
+use Rattle.front_defs.specs.Legal.{Legal, IsLegal, IsAllTold}
+use Rattle.front_laws.specs.Tidy.{Each, Tidy, LabelFits, Happens, IsKept, HappenAll, Sound, PlanHolds, SubmitsNow}
+use Rattle.front_laws.proofs.Lists.{each_imp, each_filter, each_map, each_snoc, each_found, each_put, found_id}
 use Rattle.front_laws.proofs.Tidying.{tidy_on}
-use Rattle.front_laws.proofs.Following.{fits_on, follows_on, follows_same, any_none, or_false, held_key, key_held, match_is}
+use Rattle.front_laws.proofs.Following.{fits_on, follows_on, follows_same, any_none, or_false, key_held, match_is}
 use Rattle.front_laws.proofs.Openings.{agreement}
-use Rattle.front_laws.proofs.Acting.{Shaped, ranged, acted_happens, told_happens, ranged_txns, ranged_tables, key_found, begun_now}
+use Rattle.front_laws.proofs.Acting.{Shaped, acted_happens, told_happens, ranged_txns, ranged_tables, key_found, begun_now}
 use Rattle.front_laws.proofs.Replies.{went_well, is_begun, BeginsBy, begins_by}
 
 pub record Good (Es : List Event) : Type 0 where

@@ -1,13 +1,12 @@
 -- A label counts at most once.
-use Rattle.std.proofs.Common.{◌≡◌, List, [], ◌∷◌, ◌⊎◌, inl, inr, sym}
+use Rattle.std.proofs.Common.{◌≡◌, List, [], ◌∷◌, inl, inr, sym}
 use Rattle.labels.specs.declared.txn_state.TxnState.{TxnState}
 use Rattle.labels.specs.declared.txn_state.TxnState.TheVariants as state
 use Rattle.front_defs.specs.declared.history.Entry.{Entry}
-use Rattle.front_defs.specs.declared.txn.Txn.{Txn}
 use Rattle.front_defs.specs.Transactions.{txns_of}
 use Rattle.front_defs.specs.History.{happened}
 use Rattle.front_defs.specs.Legal.{Legal}
-use Rattle.front_laws.specs.Tidy.{Each, Pairs, OlderIsAborted}
+use Rattle.front_laws.specs.Tidy.{Pairs, OlderIsAborted}
 use Rattle.front_laws.specs.Laws.{Counts, CountsOnce, EarlierIsAborted}
 use Rattle.front_laws.proofs.Lists.{each_imp}
 use Rattle.front_laws.proofs.Histories.{kept}

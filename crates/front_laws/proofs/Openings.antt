@@ -1,5 +1,5 @@
 -- An opening goes past each event that a record tells, and forgets every other one.
-use Rattle.std.proofs.Common.{◌≡◌, ℕ, ◌+◌, Bool, true, false, cond, not, List, [], ◌∷◌, ◌++◌, Option, Some, IfSome, map, refl, sym, ◌∙◌, ap, append-nil}
+use Rattle.std.proofs.Common.{◌≡◌, ℕ, ◌+◌, Bool, true, false, cond, List, [], ◌∷◌, ◌++◌, Option, Some, IfSome, map, refl, sym, ◌∙◌, ap, append-nil}
 use Rattle.std.specs.Prelude.{filter, nat_eq, nat_lt}
 use Rattle.dl_values.specs.declared.cell.Cell.{Cell}
 use Rattle.front_defs.specs.declared.event.Event.{Event}

@@ -1,5 +1,5 @@
 -- The places of the transactions of a legal history.
-use Rattle.std.proofs.Common.{◌≡◌, ℕ, ◌+◌, ◌≤◌, ◌<◌, Bool, true, false, cond, not, ◌&&◌, List, [], ◌∷◌, ◌++◌, Option, Some, None, map, refl, sym, ◌∙◌, ap, arith, subst, find}
+use Rattle.std.proofs.Common.{◌≡◌, ℕ, ◌+◌, ◌≤◌, ◌<◌, Bool, true, false, cond, not, ◌&&◌, List, [], ◌∷◌, ◌++◌, Some, None, map, refl, sym, ◌∙◌, ap, arith, subst}
 use Rattle.std.proofs.lemmas.Bool.Decides.{nat_tests}
 use Rattle.std.specs.Prelude.{filter, length, nat_eq, nat_lt, unwrap_or}
 use Rattle.std.specs.List.{list_any}
@@ -15,8 +15,8 @@ use Rattle.front_defs.specs.Catalogue.{db_of, tables_of}
 use Rattle.front_defs.specs.Transactions.{is_committed, txn_at, changed, put_txn, begun_txn, submitted_txn, aborted_at, visible_at, place_of, has_lower, due, txns_of, places_of}
 use Rattle.front_defs.specs.History.{happened}
 use Rattle.front_defs.specs.Legal.{Legal}
-use Rattle.front_laws.specs.Tidy.{Each, Pairs, Ascends, Tells, Tidy, Happens, HasPlace, PlacesDiffer, waiting, PlacesFit}
-use Rattle.front_laws.proofs.Lists.{each_imp, each_both, each_filter, each_map, each_snoc, each_found, each_put, each_at, always, pairs_filter, pairs_map, pairs_snoc, pairs_put, found_id, eq_is}
+use Rattle.front_laws.specs.Tidy.{Each, Pairs, Ascends, Tells, Happens, HasPlace, PlacesDiffer, waiting, PlacesFit}
+use Rattle.front_laws.proofs.Lists.{each_imp, each_both, each_filter, each_map, each_snoc, each_found, each_put, each_at, always, pairs_filter, pairs_map, pairs_snoc, pairs_put, eq_is}
 use Rattle.front_laws.proofs.Tidying.{due_is, due_found, passes}
 use Rattle.front_laws.proofs.Following.{any_none}
 use Rattle.front_laws.proofs.Histories.{Good, always_holds}

@@ -1,7 +1,7 @@
 -- Each transaction is published at most once.
-use Rattle.std.proofs.Common.{◌≡◌, ℕ, ◌+◌, ◌<◌, Bool, true, false, cond, not, ◌&&◌, ◌||◌, List, [], ◌∷◌, ◌++◌, Option, Some, map, refl, sym, ◌∙◌, ap, arith, subst, find}
+use Rattle.std.proofs.Common.{◌≡◌, ℕ, Bool, true, false, cond, ◌||◌, List, ◌∷◌, Some, map, refl, sym, ◌∙◌, ap, arith, subst}
 use Rattle.std.proofs.lemmas.Bool.Decides.{nat_tests}
-use Rattle.std.specs.Prelude.{filter, nat_eq}
+use Rattle.std.specs.Prelude.{nat_eq}
 use Rattle.std.specs.List.{list_any}
 use Rattle.labels.specs.declared.txn_state.TxnState.{TxnState}
 use Rattle.labels.specs.declared.txn_state.TxnState.TheVariants as state
@@ -14,8 +14,8 @@ use Rattle.front_defs.specs.Catalogue.{db_of, tables_of}
 use Rattle.front_defs.specs.Transactions.{is_visible, txn_at, changed, begun_txn, submitted_txn, aborted_at, visible_at, txns_of, places_of}
 use Rattle.front_defs.specs.History.{happened}
 use Rattle.front_defs.specs.Legal.{Legal}
-use Rattle.front_laws.specs.Tidy.{Each, Pairs, Tells, Happens, published_of, Distinct}
-use Rattle.front_laws.proofs.Lists.{each_imp, each_both, each_filter, each_map, each_snoc, each_found, each_put, each_at, found_id, eq_is}
+use Rattle.front_laws.specs.Tidy.{Each, Tells, Happens, published_of, Distinct}
+use Rattle.front_laws.proofs.Lists.{each_imp, each_both, each_filter, each_map, each_snoc, each_found, each_put, each_at, eq_is}
 use Rattle.front_laws.proofs.Tidying.{due_is, due_found, found_told, told_committed, none_told}
 use Rattle.front_laws.proofs.Following.{any_none, none_any}
 use Rattle.front_laws.proofs.Histories.{Good, always_holds}

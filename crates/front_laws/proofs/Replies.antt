@@ -1,5 +1,5 @@
 -- Which replies a command may have: how a call went, and where a Begin is the answer.
-use Rattle.std.proofs.Common.{◌≡◌, ℕ, Bool, true, false, cond, not, ◌&&◌, List, [], ◌∷◌, ◌++◌, Option, Some, None, IfSome, MatchOption, ◌⊎◌, inl, inr, refl, sym, ◌∙◌, ap, subst, find, is_some, is_none}
+use Rattle.std.proofs.Common.{◌≡◌, ℕ, Bool, true, false, cond, not, ◌&&◌, List, [], ◌∷◌, Option, Some, None, IfSome, MatchOption, ◌⊎◌, inl, inr, refl, sym, ◌∙◌, ap, subst, is_some, is_none}
 use Rattle.std.specs.Prelude.{◌+◌, nat_le, length}
 use Rattle.dl_values.specs.declared.cell.Cell.{Cell}
 use Rattle.schema_models.specs.Faults.{refuse_if, first_of}
@@ -18,11 +18,11 @@ use Rattle.front_defs.specs.Names.{is_label}
 use Rattle.front_defs.specs.Ids.{next_of}
 use Rattle.front_defs.specs.Refusals.{Answers}
 use Rattle.front_defs.specs.Catalogue.{has_db, table_named, databases_of, tables_of}
-use Rattle.front_defs.specs.Transactions.{is_prepare, is_precommitted, is_aborted, txn_at, txn_by, label_of, due, place_of, txns_of, places_of}
+use Rattle.front_defs.specs.Transactions.{is_prepare, is_precommitted, is_aborted, txn_at, txn_by, label_of, due, txns_of, places_of}
 use Rattle.front_defs.specs.Stored.{base_of, lists_of, cost_of}
 use Rattle.front_defs.specs.Defines.{shape_by, layout_by, def_fault}
 use Rattle.front_defs.specs.Answer.{most, label_for, bad_label, used, refused_by, refused_def, submit_refusals, abort_refusals, refusals, plan_of, BegunFor, PublishedFor, AbortedFor, ShownFor, Shows, placed_for, Answer}
-use Rattle.front_defs.specs.History.{new_range, begins, acted, Outcome, Well, Refused, Faulted, outcome}
+use Rattle.front_defs.specs.History.{acted, Well, Refused, outcome}
 
 -- each refusal that holds has this
 abbrev pub AllSome : (Reply → Type 0) → List (Option Reply) → Type 0

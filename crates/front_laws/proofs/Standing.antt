@@ -1,5 +1,5 @@
 -- What was opened from the records of a history stands for it, with the opening.
-use Rattle.std.proofs.Common.{ℕ, List, ◌∷◌, sym, ◌∙◌}
+use Rattle.std.proofs.Common.{List, ◌∷◌, sym, ◌∙◌}
 use Rattle.front_defs.specs.declared.event.Event.{Event}
 use Rattle.front_defs.specs.declared.event.Event.TheVariants as event
 use Rattle.front_defs.specs.declared.history.Entry.{Entry}

@@ -1,18 +1,15 @@
 -- The stored lists of a table fold to its base.
-use Rattle.std.proofs.Common.{◌≡◌, ℕ, ◌+◌, Bool, true, false, cond, List, [], ◌∷◌, ◌++◌, Option, Some, None, MatchOption, refl, sym, ◌∙◌, ap, arith, subst, append_assoc, append-nil}
+use Rattle.std.proofs.Common.{◌≡◌, ℕ, ◌+◌, Bool, true, false, cond, List, [], ◌∷◌, ◌++◌, Option, Some, None, refl, sym, ◌∙◌, ap, arith, subst, append_assoc, append-nil}
 use Rattle.std.proofs.lemmas.Bool.Decides.{nat_tests}
 use Rattle.std.specs.Prelude.{nat_eq}
-use Rattle.std.specs.List.{flat_map}
 use Rattle.dl_values.specs.declared.cell.Cell.{Cell}
-use Rattle.dl_values.specs.Order.{row_cmp}
 use Rattle.fold_laws.specs.Fold.{folded}
-use Rattle.fold_laws.proofs.Folds.{fold_left, fold_right, fold_again}
+use Rattle.fold_laws.proofs.Folds.{fold_left, fold_right}
 use Rattle.schema_models.specs.ShapeView.{ShapeView}
-use Rattle.schema_models.specs.Folds.{fold_of, key_of, gathered}
+use Rattle.schema_models.specs.Folds.{fold_of, key_of}
 use Rattle.schema_models.proofs.RowMerges.{shape_folding}
 use Rattle.front_defs.specs.declared.event.Event.{Event}
 use Rattle.front_defs.specs.declared.event.Event.TheVariants as event
-use Rattle.front_defs.specs.declared.event.LoadPublished.{LoadPublished}
 use Rattle.front_defs.specs.declared.history.Entry.{Entry}
 use Rattle.front_defs.specs.declared.catalogue.Table.{Table}
 use Rattle.front_defs.specs.declared.txn.Txn.{Txn}

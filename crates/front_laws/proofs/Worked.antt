@@ -1,5 +1,5 @@
 -- The worked histories are legal.
-use Rattle.std.proofs.Common.{◌≡◌, ℕ, Bool, true, false, refl, sym, ◌∙◌, ap, map, ◌⊎◌, inl, inr, List, [], ◌∷◌, IfSome, arith}
+use Rattle.std.proofs.Common.{◌≡◌, ℕ, true, false, refl, sym, ◌∙◌, ap, map, ◌⊎◌, inl, inr, List, [], IfSome, arith}
 use Rattle.dl_values.specs.declared.cell.Cell.{Cell}
 use Rattle.schema_models.specs.ShapeView.{ShapeView}
 use Rattle.schema_models.specs.Folds.{fold_of}
@@ -16,9 +16,9 @@ use Rattle.front_defs.specs.Defines.{shape_by}
 use Rattle.front_defs.specs.Answer.{Answer, Shows}
 use Rattle.front_defs.specs.History.{happened, broken_of, last_faults}
 use Rattle.front_defs.specs.May.{May, IsBuilt}
-use Rattle.front_defs.specs.Legal.{Legal, IsLegal, IsMarked}
+use Rattle.front_defs.specs.Legal.{Legal, IsLegal}
 use Rattle.front_laws.specs.Laws.{joined}
-use Rattle.front_laws.specs.Examples.{plan, made, begun, submitted, loaded, both_begun, later_first, both_submitted, one_published, both_published, faulted, def, d, t, submit, ShowsRows}
+use Rattle.front_laws.specs.Examples.{plan, made, begun, submitted, loaded, both_begun, later_first, both_submitted, one_published, both_published, faulted, def, d, t, ShowsRows}
 
 abbrev plain : Command → Reply → Call
 plain c r = record { seat = []; command = c; reply = r; opened = false; rose = false; took = false; faults_in = 0; faults_out = 0 }

@@ -1,5 +1,5 @@
 -- What the laws of legal histories say.
-use Rattle.std.specs.Prelude.{◌≡◌, ℕ, ◌<◌, ◌≤◌, List, [], Option, Some, None, ◌⊎◌}
+use Rattle.std.specs.Prelude.{◌≡◌, ◌<◌, List, [], Option, Some, None, ◌⊎◌}
 use Rattle.std.specs.List.{flat_map}
 use Rattle.dl_values.specs.declared.cell.Cell.{Cell}
 use Rattle.schema_models.specs.Folds.{fold_of}
@@ -7,7 +7,7 @@ use Rattle.labels.specs.declared.txn_state.TxnState.{TxnState}
 use Rattle.labels.specs.declared.txn_state.TxnState.TheVariants as state
 use Rattle.front_defs.specs.declared.catalogue.Table.{Table}
 use Rattle.front_defs.specs.declared.txn.Txn.{Txn}
-use Rattle.front_laws.specs.Tidy.{Pairs, label_key}
+use Rattle.front_laws.specs.Tidy.{label_key}
 
 -- COMMITTED or VISIBLE
 abbrev pub Counts : TxnState → Type 0

@@ -1,5 +1,5 @@
 -- What holds of the transactions of every legal history, and which events may come after others.
-use Rattle.std.specs.Prelude.{◌≡◌, ℕ, ◌+◌, ◌≤◌, ◌<◌, Bool, true, false, ◌&&◌, List, [], ◌∷◌, ◌++◌, Option, Some, IfSome, filter, length, nat_eq, ◌⊎◌}
+use Rattle.std.specs.Prelude.{◌≡◌, ℕ, ◌+◌, ◌≤◌, ◌<◌, Bool, true, false, List, [], ◌∷◌, ◌++◌, Some, IfSome, filter, length, nat_eq, ◌⊎◌}
 use Rattle.std.specs.List.{list_any}
 use Rattle.schema_models.specs.ShapeView.{ShapeView}
 use Rattle.labels.specs.declared.txn_state.TxnState.{TxnState}
@@ -13,7 +13,7 @@ use Rattle.front_defs.specs.declared.txn.Txn.{Txn}
 use Rattle.front_defs.specs.Stored.{AreRowsOf}
 use Rattle.front_defs.specs.Ids.{range_of, next_of, told_ids, range_size}
 use Rattle.front_defs.specs.Catalogue.{table_at, db_of, last_table_of, tables_of}
-use Rattle.front_defs.specs.Transactions.{is_committed, is_visible, txn_at, place_of, due, txns_of, places_of}
+use Rattle.front_defs.specs.Transactions.{is_committed, txn_at, place_of, due, txns_of}
 use Rattle.front_defs.specs.Journal.{There, FollowsDb, FollowsTable, is_load_label}
 
 abbrev pub Each : {X : Type 0} → (X → Type 0) → List X → Type 0

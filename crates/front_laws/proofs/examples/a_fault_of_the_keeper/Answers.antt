@@ -1,5 +1,5 @@
-use Rattle.std.proofs.Common.{refl, inl, inr}
-use Rattle.front_laws.proofs.Worked.{made_legal, loaded_legal, both_legal, faulted_legal}
+use Rattle.std.proofs.Common.{refl, inr}
+use Rattle.front_laws.proofs.Worked.{faulted_legal}
 use Rattle.front_laws.proofs.examples.a_fault_of_the_keeper.Goals as goal
 
 pub returns-clause-kept : goal.returns-clause-kept

@@ -1,5 +1,5 @@
-use Rattle.std.proofs.Common.{refl, inl, inr}
-use Rattle.front_laws.proofs.Worked.{made_legal, loaded_legal, both_legal, faulted_legal}
+use Rattle.std.proofs.Common.{refl}
+use Rattle.front_laws.proofs.Worked.{loaded_legal}
 use Rattle.fold_laws.specs.Fold.{folded}
 use Rattle.front_laws.proofs.examples.a_first_load.Goals as goal
 

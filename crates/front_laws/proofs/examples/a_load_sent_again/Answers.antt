@@ -1,4 +1,4 @@
-use Rattle.std.proofs.Common.{refl, inl, inr}
+use Rattle.std.proofs.Common.{refl, inr}
 use Rattle.front_laws.proofs.examples.a_load_sent_again.Goals as goal
 
 pub returns-clause-open : goal.returns-clause-open

@@ -1,4 +1,4 @@
-use Rattle.std.proofs.Common.{refl, inl, inr, []}
+use Rattle.std.proofs.Common.{refl, inr, []}
 use Rattle.front_defs.specs.Stored.{base_of}
 use Rattle.front_defs.specs.History.{happened}
 use Rattle.front_laws.specs.Examples.{loaded, table}

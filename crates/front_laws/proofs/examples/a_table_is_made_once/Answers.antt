@@ -1,4 +1,4 @@
-use Rattle.std.proofs.Common.{refl, inl, inr}
+use Rattle.std.proofs.Common.{refl, inr}
 use Rattle.schema_models.specs.ShapeRules.{shape_fault}
 use Rattle.front_laws.proofs.examples.a_table_is_made_once.Goals as goal
 

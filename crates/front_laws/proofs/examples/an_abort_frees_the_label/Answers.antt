@@ -1,4 +1,4 @@
-use Rattle.std.proofs.Common.{refl, inl, inr}
+use Rattle.std.proofs.Common.{refl, inr}
 use Rattle.front_laws.proofs.examples.an_abort_frees_the_label.Goals as goal
 
 pub returns-clause-used : goal.returns-clause-used

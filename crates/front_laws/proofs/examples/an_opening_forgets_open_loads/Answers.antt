@@ -1,4 +1,4 @@
-use Rattle.std.proofs.Common.{refl, inl, inr}
+use Rattle.std.proofs.Common.{refl}
 use Rattle.front_laws.proofs.examples.an_opening_forgets_open_loads.Goals as goal
 
 pub returns-clause-forgotten : goal.returns-clause-forgotten

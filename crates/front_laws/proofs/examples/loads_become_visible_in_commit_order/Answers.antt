@@ -1,5 +1,5 @@
-use Rattle.std.proofs.Common.{refl, inl, inr}
-use Rattle.front_laws.proofs.Worked.{made_legal, loaded_legal, both_legal, faulted_legal}
+use Rattle.std.proofs.Common.{refl, inr}
+use Rattle.front_laws.proofs.Worked.{both_legal}
 use Rattle.front_laws.proofs.examples.loads_become_visible_in_commit_order.Goals as goal
 
 pub returns-clause-legal : goal.returns-clause-legal
