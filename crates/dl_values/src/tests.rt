@@ -28,9 +28,17 @@ fn integers_are_read_by_their_type(rt: HostRuntime) -> Result<(), Fail> {
         (ColType::Int, b"2147483648", b"none"),
         (ColType::Int, b"-2147483648", b"-2147483648"),
         (ColType::Int, b"-2147483649", b"none"),
-        (ColType::BigInt, b"9223372036854775807", b"9223372036854775807"),
+        (
+            ColType::BigInt,
+            b"9223372036854775807",
+            b"9223372036854775807",
+        ),
         (ColType::BigInt, b"9223372036854775808", b"none"),
-        (ColType::BigInt, b"-9223372036854775808", b"-9223372036854775808"),
+        (
+            ColType::BigInt,
+            b"-9223372036854775808",
+            b"-9223372036854775808",
+        ),
         (ColType::BigInt, b"-9223372036854775809", b"none"),
         (ColType::BigInt, b"99999999999999999999999999", b"none"),
         (ColType::BigInt, b"000000000000000000000000000007", b"7"),
@@ -71,7 +79,11 @@ fn dates_and_texts_are_read_by_their_type(rt: HostRuntime) -> Result<(), Fail> {
         (ColType::Varchar(4), b"abcde", b"none"),
         (ColType::Varchar(4), "é é".as_bytes(), b"none"),
         (ColType::Varchar(4), b"\xff", b"none"),
-        (ColType::Varchar(30), b"a text of more than 15 bytes", b"a text of more than 15 bytes"),
+        (
+            ColType::Varchar(30),
+            b"a text of more than 15 bytes",
+            b"a text of more than 15 bytes",
+        ),
     ];
     for (kind, text, wanted) in table {
         let got = read_back(alloc, kind, text)?;
@@ -90,7 +102,10 @@ fn rows_are_ordered_by_their_first_difference(rt: HostRuntime) -> Result<(), Fai
     high.push(Cell::Int(-5))?;
     assert_eq!(rt; compare_rows(&low, &high), Ordering::Less);
     assert_eq!(rt; compare_rows(&high, &low), Ordering::Greater);
-    assert_eq!(rt; compare_rows(&low, &copy_row(alloc, &low)?), Ordering::Equal);
+    assert_eq!(rt;
+        compare_rows(&low, &copy_row(alloc, &low)?),
+        Ordering::Equal
+    );
     Ok(())
 }
 

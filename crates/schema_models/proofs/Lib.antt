@@ -6,3 +6,4 @@ mod MergeLemmas
 pub mod RowLengths
 pub mod RowMerges
 pub mod RowsStay
+pub mod ShapeLemmas

@@ -1,9 +1,7 @@
 -- Rows of a shape merge and fold to rows of the shape.
-use Rattle.std.proofs.Common.{◌≡◌, ℤ, pos, negsuc, ◌+◌, ◌^◌, ◌%◌, Bool, true, false, cond, not, ◌&&◌, List, [], ◌∷◌, ◌++◌, length, Option, Some, None, refl, arith, w64}
-use Rattle.std.specs.Prelude.{nat_lt, ◌==◌}
+use Rattle.std.proofs.Common.{◌≡◌, ℤ, pos, negsuc, ◌+◌, ◌^◌, ◌%◌, Bool, true, false, cond, ◌&&◌, List, [], ◌∷◌, ◌++◌, refl, arith, w64}
 use Rattle.std.specs.Int.{int_wrapping_add, cast_unsigned}
-use Rattle.std.specs.List.{AllByRecursion, filter, flat_map, fold, list_any}
-use Rattle.std.specs.Str.{bytes_eq}
+use Rattle.std.specs.List.{AllByRecursion, filter, flat_map, fold}
 use Rattle.std.specs.Ordering.{is_gt}
 use Rattle.std.proofs.lemmas.Bool.Decides.{nat_tests}
 use mir.ValLaws.{to_z-Fits}
@@ -19,75 +17,17 @@ use Rattle.dl_values.specs.declared.col_type.ColType.{ColType}
 use Rattle.dl_values.specs.declared.col_type.ColType.TheVariants as kind
 use Rattle.fold_laws.proofs.Filters.{filter_keeps}
 use Rattle.fold_laws.specs.Fold.{distinct, folded, has_key, merged}
-use Rattle.schema_models.specs.CellTypes.{fits_column, is_of_type, is_type}
-use Rattle.schema_models.specs.Faults.{first_of, refuse_if}
+use Rattle.schema_models.proofs.ShapeLemmas.{Fits, shape_fits}
+use Rattle.schema_models.specs.CellTypes.{fits_column, is_of_type}
 use Rattle.schema_models.specs.Folds.{fold_of, gathered, gathered_in, key_of, merged_by_role, merged_row}
-use Rattle.schema_models.specs.Names.{is_name}
 use Rattle.schema_models.specs.RowRules.{fits_columns, IsOfShape}
-use Rattle.schema_models.specs.ShapeRules.{IsShape, can_merge, column_faults, faults_after, fits_default, fits_model, is_key, shape_fault}
+use Rattle.schema_models.specs.ShapeRules.{IsShape, can_merge, fits_model}
 use Rattle.schema_models.specs.ShapeView.{ShapeView}
 use Rattle.schema_models.specs.declared.column_def.ColumnDef.{ColumnDef}
 use Rattle.schema_models.specs.declared.model.Model.{Model}
 use Rattle.schema_models.specs.declared.model.Model.TheVariants as model
 use Rattle.schema_models.specs.declared.role.Role.{Role}
 use Rattle.schema_models.specs.declared.role.Role.TheVariants as role
-use Rattle.schema_models.specs.declared.shape_error.ShapeError.{ShapeError}
-use Rattle.schema_models.specs.declared.shape_error.ShapeError.TheVariants as fault
-
--- ---- a column of a shape may merge as it does
-
-not_first : {E : Type 0} (x : Option E) (xs : List (Option E)) → first_of (x ∷ xs) ≡ None → (x ≡ None) × (first_of xs ≡ None)
-not_first None xs e = (refl, e)
-not_first (Some x) xs e = cc
-
-none_left : {E : Type 0} (xs ys : List (Option E)) → first_of (xs ++ ys) ≡ None → (first_of xs ≡ None) × (first_of ys ≡ None)
-none_left [] ys e = (refl, e)
-none_left (None ∷ xs) ys e = none_left xs ys e
-none_left (Some x ∷ xs) ys e = cc
-
-not_refused : {E : Type 0} (b : Bool) (e : E) → refuse_if (not b) e ≡ None → b ≡ true
-not_refused true e h = refl
-not_refused false e h = cc
-
-Fits : Model → ColumnDef → Type 0
-Fits m c = fits_model m c.role c.kind ≡ true
-
-sixth_none : {E : Type 0} (a b c d f g h : Option E) → first_of (a ∷ b ∷ c ∷ d ∷ f ∷ g ∷ h ∷ []) ≡ None → g ≡ None
-sixth_none a b c d f g h e =
-    let e1 = not_first a (b ∷ c ∷ d ∷ f ∷ g ∷ h ∷ []) e in
-    let e2 = not_first b (c ∷ d ∷ f ∷ g ∷ h ∷ []) e1.1 in
-    let e3 = not_first c (d ∷ f ∷ g ∷ h ∷ []) e2.1 in
-    let e4 = not_first d (f ∷ g ∷ h ∷ []) e3.1 in
-    let e5 = not_first f (g ∷ h ∷ []) e4.1 in
-    (not_first g (h ∷ []) e5.1).0
-
-column_fits : (m : Model) (before : List ColumnDef) (c : ColumnDef) → first_of (column_faults m before c) ≡ None → Fits m c
-unfolding Fits
-column_fits m before c e =
-    not_refused (fits_model m c.role c.kind) (fault.BadAgg (length before))
-    (sixth_none (refuse_if (not (is_name c.name)) (fault.BadName (length before)))
-    (refuse_if (list_any (λ b. bytes_eq b.name c.name) before) (fault.DoubleName (length before)))
-    (refuse_if (not (is_type c.kind)) (fault.BadType (length before)))
-    (refuse_if ((length before == 0) && not (is_key c.role)) (fault.NoKey (length before)))
-    (refuse_if (is_key c.role && list_any (λ b. not (is_key b.role)) before) (fault.KeyAfterValue (length before)))
-    (refuse_if (not (fits_model m c.role c.kind)) (fault.BadAgg (length before)))
-    (refuse_if (not (fits_default c c.default)) (fault.BadDefault (length before)))
-    e)
-
-columns_fit : (m : Model) (before cs : List ColumnDef) → first_of (faults_after m before cs) ≡ None → AllByRecursion (Fits m) cs
-columns_fit m before [] e = tt
-columns_fit m before (c ∷ cs) e =
-    let a = none_left (column_faults m before c) (faults_after m (before ++ c ∷ []) cs) e in
-    (column_fits m before c a.0, columns_fit m (before ++ c ∷ []) cs a.1)
-
-shape_fits : (s : ShapeView) → IsShape s → AllByRecursion (Fits s.model) s.columns
-unfolding shape_fault
-shape_fits s e =
-    let many : Option ShapeError = refuse_if (nat_lt 64 (length s.columns)) (fault.TooManyColumns 64) in
-    let none : Option ShapeError = refuse_if (length s.columns == 0) (fault.NoKey 0) in
-    let a = not_first many (none ∷ faults_after s.model [] s.columns) e in
-    let b = not_first none (faults_after s.model [] s.columns) a.1 in
-    columns_fit s.model [] s.columns b.1
 
 -- ---- cells of one column
 
@@ -185,7 +125,6 @@ and_true : (a b : Bool) → a ≡ true → b ≡ true → (a && b) ≡ true
 and_true a b e f = rw (e, f) refl
 
 row_stays : (m : Model) (cs : List ColumnDef) → AllByRecursion (Fits m) cs → (xs ys : List Cell) → fits_columns cs xs ≡ true → fits_columns cs ys ≡ true → fits_columns cs (merged_row cs xs ys) ≡ true
-unfolding Fits
 row_stays m [] a xs ys p q = refl
 row_stays m (c ∷ cs) a [] ys p q = cc
 row_stays m (c ∷ cs) a (x ∷ xs) [] p q = cc

@@ -22,7 +22,7 @@ impl std::marker::Model for Shape {
 }
 
 impl Shape {
-    ghost use Rattle.std.specs.Prelude.{◌≡◌, IfOk, IfErr, Some, None, position};
+    ghost use Rattle.std.specs.Prelude.{◌≡◌, ◌<◌, IfOk, IfErr, Some, None, position};
     ghost use Rattle.std.specs.Str.{bytes_eq};
     ghost use Rattle.schema_models.specs.ShapeRules as rules;
     ghost use Rattle.schema_models.specs.ShapeView.{key_count};
@@ -73,9 +73,10 @@ impl Shape {
         self.columns.iter().position(|c| c.name == *name)
     }
 
-    /// Does nothing: each shape passes every test of `build`, which a proof learns by this call.
+    /// Does nothing: each shape passes every test of `build`, and so has a key, which a proof learns by this call.
     pub fn vouch(&self)
-        ensures { rules.IsShape self.now }
+        ensures valid { rules.IsShape self.now }
+        ensures has_key { 0 < key_count self.now.columns }
     {
         let _ = &self.columns;
     }

@@ -1,0 +1,4 @@
+mod Lines
+mod Ratios
+mod Cells
+mod Tallies

@@ -1,0 +1,10 @@
+pub mod BodyFacts
+pub mod Digits
+pub mod HeadFacts
+pub mod LengthFacts
+pub mod LineFacts
+pub mod MakeFacts
+pub mod Ranges
+pub mod ResponseFacts
+pub mod TakeFacts
+pub mod Unique

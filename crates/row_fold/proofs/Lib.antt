@@ -1,0 +1,4 @@
+mod Below
+mod MergeLemmas
+mod RunLemmas
+mod Sorts

@@ -1,0 +1,31 @@
+use Rattle.std.proofs.Common.{◌≡◌, List, ◌∷◌, sym, ap, ap₂, ◌∙◌, subst, Equal}
+use Rattle.std.proofs.lemmas.Result.{on_ok_weaker}
+use Rattle.dl_values.specs.Order.{row_cmp}
+use Rattle.dl_values.specs.declared.cell.Cell.{Cell}
+use Rattle.fold_laws.specs.Fold.{Ascends}
+use Rattle.schema_models.specs.Folds.{key_of, merged_row}
+use Rattle.row_fold.proofs.RunLemmas.{same_taken, same_ascends, next_taken}
+use Rattle.row_fold.proofs.merging.take_next.Goals as goal
+
+pub returns-in-Equal-clause-same : goal.returns-in-Equal-clause-same
+returns-in-Equal-clause-same c =
+    let s = c.args.rule.now.shape.now in
+    let tie = c.in-Equal.ensures ∙ ap₂ row_cmp (c.key.ensures ∙ ap (λ r. key_of s r) c.deref.ensures.value) c.key-2.ensures in
+    on_ok_weaker c.merge_into.result (λ m rest a. same_taken s c.requires.merges c.args.out.now c.args.made.now.items c.args.next.now c.merge_into.new.made.items (m ∙ ap (λ l. merged_row l c.args.made.now.items c.args.next.now) c.columns.ensures) tie rest) c.merge_into.ensures
+
+pub returns-in-Equal-clause-ascends : goal.returns-in-Equal-clause-ascends
+returns-in-Equal-clause-ascends c =
+    let s = c.args.rule.now.shape.now in
+    let tie = c.in-Equal.ensures ∙ ap₂ row_cmp (c.key.ensures ∙ ap (λ r. key_of s r) c.deref.ensures.value) c.key-2.ensures in
+    on_ok_weaker c.merge_into.result (λ m rest a. same_ascends s c.requires.merges c.args.made.now.items c.args.next.now c.merge_into.new.made.items (m ∙ ap (λ l. merged_row l c.args.made.now.items c.args.next.now) c.columns.ensures) tie rest a) c.merge_into.ensures
+
+pub returns-in_ok-end-in_default-clause-same : goal.returns-in_ok-end-in_default-clause-same
+returns-in_ok-end-in_default-clause-same c =
+    let s = c.args.rule.now.shape.now in
+    let is = c.compare_slices.ensures ∙ ap₂ row_cmp (c.key.ensures ∙ ap (λ r. key_of s r) c.deref.ensures.value) c.key-2.ensures in
+    on_ok_weaker c.begin.result (λ m rest a. next_taken s c.requires.merges c.args.out.now c.end.new.out c.args.made.now.items c.args.next.now c.begin.new.made.items c.in_ok-end-in_default.ensures.added m (λ h. c.in_default.not-Equal (is ∙ sym h)) rest a) c.begin.ensures
+
+pub returns-in_ok-end-in_default-clause-ascends : goal.returns-in_ok-end-in_default-clause-ascends
+returns-in_ok-end-in_default-clause-ascends c =
+    let s = c.args.rule.now.shape.now in
+    on_ok_weaker c.begin.result (λ m rest a. subst (λ (z : List Cell). Ascends row_cmp (key_of s) (z ∷ rest)) (sym m) a.1) c.begin.ensures

@@ -1,0 +1,85 @@
+// Rows of one key that stand side by side make one row.
+ghost use Rattle.std.specs.Prelude.{◌≡◌, ◌++◌, ◌∷◌, [], IfOk, OnOk, List};
+ghost use Rattle.dl_values.specs.Order.{row_cmp};
+ghost use Rattle.dl_values.specs.declared.cell.Cell.{Cell};
+ghost use Rattle.fold_laws.specs.Fold.{Ascends};
+ghost use Rattle.row_fold.specs.Sorted.{keyed_key, rows_of};
+ghost use Rattle.schema_models.specs.Folds.{fold_of, key_of};
+ghost use Rattle.schema_models.specs.declared.model.Model.TheVariants as model;
+
+use crate::key_rule::KeyRule;
+use crate::keyed::Keyed;
+use crate::runs::{begin, end, fill, merge_into};
+use dl_values::{Cell, NoMemory, Row, Rows, compare_slices};
+use std::alloc::Global;
+use std::cmp::Ordering;
+
+// Takes the next row: it merges into the row that is being made, or ends that and begins the next one.
+fn take_next(
+    alloc: Global,
+    rule: &KeyRule,
+    out: &mut Rows,
+    room: &mut Row,
+    made: &mut Vec<Cell>,
+    next: &[Cell],
+) -> Result<(), NoMemory>
+    requires empty { room.old ≡ [] }
+    requires merges { rule.now.shape.now.model ≡ model.Duplicate → ⊥ }
+    ensures emptied { OnOk result (room.new ≡ []) }
+    ensures same { OnOk result ((rest : List (List Cell)) → Ascends row_cmp (key_of rule.now.shape.now) (made.old.items ∷ next.now ∷ rest)
+        → out.new ++ fold_of rule.now.shape.now (made.new.items ∷ rest) ≡ out.old ++ fold_of rule.now.shape.now (made.old.items ∷ next.now ∷ rest)) }
+    ensures ascends { OnOk result ((rest : List (List Cell)) → Ascends row_cmp (key_of rule.now.shape.now) (made.old.items ∷ next.now ∷ rest)
+        → Ascends row_cmp (key_of rule.now.shape.now) (made.new.items ∷ rest)) }
+{
+    match compare_slices(rule.key(made), rule.key(next)) {
+        Ordering::Equal => merge_into(alloc, rule.shape.columns(), made, next),
+        _ => {
+            end(out, room, made)?;
+            begin(alloc, made, next)
+        }
+    }
+}
+
+// One row for each key of rows that ascend, each the merge of the rows of that key.
+fn merge_runs(alloc: Global, rule: &KeyRule, sorted: &[Keyed]) -> Result<Rows, NoMemory>
+    requires merges { rule.now.shape.now.model ≡ model.Duplicate → ⊥ }
+    requires ascends { Ascends row_cmp (key_of rule.now.shape.now) (rows_of sorted.now) }
+    ensures { IfOk result (λ out. out ≡ fold_of rule.now.shape.now (rows_of sorted.now)) }
+{
+    let mut out = Rows::new(alloc);
+    if sorted.is_empty() {
+        return Ok(out);
+    }
+    let mut room = Row::new(alloc);
+    let mut made = Vec::new(alloc);
+    begin(alloc, &mut made, sorted[0].row)?;
+    for i in 1..sorted.len() {
+        take_next(alloc, rule, &mut out, &mut room, &mut made, sorted[i].row)?;
+    }
+    end(&mut out, &mut room, &mut made)?;
+    Ok(out)
+}
+
+// The rows as they stand.
+fn copy_rows(alloc: Global, sorted: &[Keyed]) -> Result<Rows, NoMemory>
+    ensures { IfOk result (λ out. out ≡ rows_of sorted.now) }
+{
+    let mut out = Rows::new(alloc);
+    let mut room = Row::new(alloc);
+    for i in 0..sorted.len() {
+        fill(alloc, &mut room, sorted[i].row)?;
+        out.append(&mut room)?;
+    }
+    Ok(out)
+}
+
+// The fold of rows that ascend by key.
+pub fn fold_ascending(alloc: Global, rule: &KeyRule, sorted: &[Keyed]) -> Result<Rows, NoMemory>
+    requires { Ascends row_cmp (key_of rule.now.shape.now) (rows_of sorted.now) }
+    ensures { IfOk result (λ out. out ≡ fold_of rule.now.shape.now (rows_of sorted.now)) }
+{
+    if rule.keeps_all() {
+        return copy_rows(alloc, sorted);
+    }
+    merge_runs(alloc, rule, sorted)
+}

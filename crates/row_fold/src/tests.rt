@@ -1,0 +1,131 @@
+// Tables of folds, beside the plain fold.
+use crate::fold_rows;
+use dl_values::{AggKind, Cell, ColType, Name, NoMemory, Row, Rows, Text, compare_slices};
+use schema_models::{ColumnDef, Model, Role, Shape, fold};
+use std::alloc::Global;
+use std::cmp::Ordering;
+use std::test::Fail;
+
+type Pair = (Option<i64>, Option<i64>);
+
+fn cell(value: Option<i64>) -> Cell {
+    match value {
+        Some(value) => Cell::Int(value),
+        None => Cell::Null,
+    }
+}
+
+fn column(alloc: Global, name: &[u8], kind: ColType, role: Role) -> Result<ColumnDef, NoMemory> {
+    Ok(ColumnDef {
+        name: Name::new(alloc, name)?,
+        kind,
+        nullable: true,
+        role,
+        default: None,
+    })
+}
+
+// A shape of a key `k` of a type and a BIGINT value `v`.
+fn shape(alloc: Global, model: Model, key: ColType, role: Role) -> Result<Option<Shape>, NoMemory> {
+    let mut columns = Vec::new(alloc);
+    columns.push(column(alloc, b"k", key, Role::Key)?)?;
+    columns.push(column(alloc, b"v", ColType::BigInt, role)?)?;
+    Ok(Shape::build(model, columns).ok())
+}
+
+fn row(alloc: Global, key: Cell, value: Option<i64>) -> Result<Row, NoMemory> {
+    let mut row = Row::new(alloc);
+    row.push(key)?;
+    row.push(cell(value))?;
+    Ok(row)
+}
+
+fn rows(alloc: Global, of: &[Pair]) -> Result<Rows, NoMemory> {
+    let mut rows = Rows::new(alloc);
+    for (key, value) in of {
+        rows.push(row(alloc, cell(*key), *value)?)?;
+    }
+    Ok(rows)
+}
+
+fn are_same(a: &Rows, b: &Rows) -> bool {
+    if a.len() != b.len() {
+        return false;
+    }
+    for place in 0..a.len() {
+        if compare_slices(a.row(place), b.row(place)) != Ordering::Equal {
+            return false;
+        }
+    }
+    true
+}
+
+// Whether the quick fold of these rows is the plain one, and these many rows.
+fn agrees(
+    alloc: Global,
+    model: Model,
+    role: Role,
+    of: &[Pair],
+    count: usize,
+) -> Result<bool, NoMemory> {
+    let Some(shape) = shape(alloc, model, ColType::BigInt, role)? else {
+        return Ok(false);
+    };
+    let plain = fold(alloc, &shape, &rows(alloc, of)?)?;
+    let quick = fold_rows(alloc, &shape, rows(alloc, of)?)?;
+    Ok(quick.len() == count && are_same(&quick, &plain))
+}
+
+#[test]
+fn the_quick_fold_is_the_plain_one(rt: HostRuntime) -> Result<(), Fail> {
+    let given = [
+        (Some(2), Some(1)),
+        (None, Some(7)),
+        (Some(i64::MIN + 1), Some(3)),
+        (Some(i64::MAX), Some(4)),
+        (Some(i64::MIN), Some(5)),
+        (Some(2), None),
+        (Some(-1), Some(6)),
+        (Some(i64::MAX - 1), Some(4)),
+        (Some(2), Some(1)),
+        (Some(i64::MIN), Some(8)),
+    ];
+    let table = [
+        (Model::Duplicate, Role::Plain, 10),
+        (Model::Unique, Role::Plain, 7),
+        (Model::Aggregate, Role::Agg(AggKind::Sum), 7),
+        (Model::Aggregate, Role::Agg(AggKind::Max), 7),
+        (Model::Aggregate, Role::Agg(AggKind::ReplaceIfNotNull), 7),
+    ];
+    for (model, role, count) in table {
+        let same = agrees(rt.alloc(), model, role, &given, count)?;
+        assert!(rt; same);
+    }
+    let none = agrees(rt.alloc(), Model::Unique, Role::Plain, &[], 0)?;
+    assert!(rt; none);
+    Ok(())
+}
+
+fn texts(alloc: Global) -> Result<Rows, NoMemory> {
+    let mut rows = Rows::new(alloc);
+    rows.push(row(alloc, Cell::Text(Text::new(alloc, b"b")?), Some(1))?)?;
+    rows.push(row(
+        alloc,
+        Cell::Text(Text::new(alloc, b"a longer text than fifteen")?),
+        Some(2),
+    )?)?;
+    rows.push(row(alloc, Cell::Null, Some(3))?)?;
+    rows.push(row(alloc, Cell::Text(Text::new(alloc, b"b")?), Some(4))?)?;
+    Ok(rows)
+}
+
+#[test]
+fn keys_of_texts_are_in_order(rt: HostRuntime) -> Result<(), Fail> {
+    let alloc = rt.alloc();
+    let shape = shape(alloc, Model::Unique, ColType::Varchar(30), Role::Plain)?.ok_or("no shape")?;
+    let quick = fold_rows(alloc, &shape, texts(alloc)?)?;
+    let plain = fold(alloc, &shape, &texts(alloc)?)?;
+    assert_eq!(rt; quick.len(), 3);
+    assert!(rt; are_same(&quick, &plain));
+    Ok(())
+}

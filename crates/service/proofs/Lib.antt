@@ -1,0 +1,3 @@
+pub mod Dryruns
+pub mod ReadShapes
+pub mod Scans

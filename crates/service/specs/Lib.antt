@@ -1,0 +1,4 @@
+pub mod Columns
+pub mod Dryrun
+pub mod Exits
+pub mod Words
