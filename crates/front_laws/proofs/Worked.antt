@@ -1,5 +1,5 @@
 -- The worked histories are legal.
-use Rattle.std.proofs.Common.{◌≡◌, ℕ, true, false, refl, sym, ◌∙◌, ap, map, ◌⊎◌, inl, inr, List, [], IfSome, arith}
+use Rattle.std.proofs.Common.{◌≡◌, ℕ, true, false, refl, sym, ◌∙◌, ap, map, ◌⊎◌, inl, inr, List, [], ◌∷◌, IfSome, arith}
 use Rattle.dl_values.specs.declared.cell.Cell.{Cell}
 use Rattle.schema_models.specs.ShapeView.{ShapeView}
 use Rattle.schema_models.specs.Folds.{fold_of}
@@ -17,11 +17,9 @@ use Rattle.front_defs.specs.Answer.{Answer, Shows}
 use Rattle.front_defs.specs.History.{happened, broken_of, last_faults}
 use Rattle.front_defs.specs.May.{May, IsBuilt}
 use Rattle.front_defs.specs.Legal.{Legal, IsLegal}
+use Rattle.front_defs.specs.Script.{Served}
 use Rattle.front_laws.specs.Laws.{joined}
-use Rattle.front_laws.specs.Examples.{plan, made, begun, submitted, loaded, both_begun, later_first, both_submitted, one_published, both_published, faulted, def, d, t, ShowsRows}
-
-abbrev plain : Command → Reply → Call
-plain c r = record { seat = []; command = c; reply = r; opened = false; rose = false; took = false; faults_in = 0; faults_out = 0 }
+use Rattle.front_laws.specs.Examples.{plain, plan, made, begun, submitted, loaded, both_begun, later_first, both_submitted, one_published, both_published, faulted, def, d, t, ShowsRows, publish_one, IsOnePublish}
 
 plain_legal : (c : Command) (r : Reply) (H : List Entry) → Answer (happened H) c r → May H c → (r ≡ reply.KeeperFault → ⊥) → broken_of H ≡ false → IfSome (last_faults H) (λ n. 0 ≡ n) → IsLegal (plain c r) H
 plain_legal c r H answer may other whole count = record {
@@ -78,3 +76,8 @@ shows_rows b base shown cost _ h shape is = absurd h
 pub reads : (b : Table) (base shown : List (List Cell)) (cost : ℕ) → b.shape ≡ shape_by def → base ≡ shown → (r : Reply) → (r ≡ reply.NoMemory) ⊎ Shows b base cost r → (r ≡ reply.NoMemory) ⊎ ShowsRows shown r
 reads b base shown cost shape is r (inl e) = inl e
 reads b base shown cost shape is r (inr h) = inr (shows_rows b base shown cost r h shape is)
+
+-- the calls of a script that publishes once
+pub one_publish : (calls : List Call) (response : Reply) → Served publish_one calls response → IsOnePublish calls response
+one_publish [] response h = absurd h
+one_publish (c ∷ calls) response h = (c, ap (λ (l : List Call). c ∷ l) h.1.0, h.0, h.1.1)

@@ -16,11 +16,13 @@ use Rattle.front_defs.specs.declared.command.Command.TheVariants as command
 use Rattle.front_defs.specs.declared.command.TxnKey.TheVariants as key
 use Rattle.front_defs.specs.declared.reply.Reply.{Reply}
 use Rattle.front_defs.specs.declared.reply.Reply.TheVariants as reply
+use Rattle.front_defs.specs.declared.history.Call.{Call}
 use Rattle.front_defs.specs.declared.history.Entry.{Entry}
 use Rattle.front_defs.specs.declared.history.Entry.TheVariants.{Made}
 use Rattle.front_defs.specs.Defines.{shape_by, layout_by}
 use Rattle.front_defs.specs.Answer.{Answer}
 use Rattle.front_defs.specs.History.{happened, opening}
+use Rattle.front_defs.specs.Script.{Script, Ends, Asks}
 use Rattle.front_laws.specs.Laws.{joined}
 
 -- `d`, `t`, `k`, `v`
@@ -51,9 +53,12 @@ plan id = record { txn = id; schema = 0; layout = layout_by t def; base = shape_
 abbrev pub table : Table
 table = record { number = 1; db = d; name = t; schema = 0; shape = shape_by def; layout = layout_by t def; steps = record { number = 0; shape = shape_by def } ∷ []; rollups = [] }
 
--- an entry of the one seat, over a keeper that meets no fault
+-- a call of the one seat, over a keeper that meets no fault
+abbrev pub plain : Command → Reply → Call
+plain c r = record { seat = []; command = c; reply = r; opened = false; rose = false; took = false; faults_in = 0; faults_out = 0 }
+
 abbrev pub call : Command → Reply → Entry
-call c r = Made (record { seat = []; command = c; reply = r; opened = false; rose = false; took = false; faults_in = 0; faults_out = 0 })
+call c r = Made (plain c r)
 
 -- a database and a table were made
 abbrev pub made : List Entry
@@ -158,3 +163,11 @@ hashed_by_x = record def { hash = (120 ∷ []) ∷ [] }
 
 abbrev pub twice_k : TableDef
 twice_k = record def { columns = int_column k ∷ int_column k ∷ [] }
+
+-- a script that publishes one load and responds with the reply
+abbrev pub publish_one : Script Reply
+publish_one = Asks (command.Publish 0) (λ r. Ends r)
+
+-- the calls of that script are one call, whose reply is the response
+abbrev pub IsOnePublish : List Call → Reply → Type 0
+IsOnePublish calls response = (c : Call) × (calls ≡ c ∷ []) × (c.command ≡ command.Publish 0) × (response ≡ c.reply)

@@ -9,19 +9,24 @@ ghost use Rattle.front_defs.specs.declared.command.Command.TheVariants as comman
 ghost use Rattle.front_defs.specs.declared.command.TxnKey.TheVariants as key;
 ghost use Rattle.front_defs.specs.declared.event.Event.TheVariants.{Opened};
 ghost use Rattle.front_defs.specs.declared.reply.Reply.TheVariants as reply;
+ghost use Rattle.front_defs.specs.declared.history.Call.{Call};
+ghost use Rattle.front_defs.specs.declared.reply.Reply.{Reply};
 ghost use Rattle.front_defs.specs.History.{happened};
+ghost use Rattle.front_defs.specs.Script.{Served};
 ghost use Rattle.front_defs.specs.Ids.{next_of};
 ghost use Rattle.front_defs.specs.Legal.{Legal};
 ghost use Rattle.front_defs.specs.May.{IsBuilt};
 ghost use Rattle.front_defs.specs.Stored.{base_of, versions_of};
 ghost use Rattle.front_defs.specs.Transactions.{txns_of};
 ghost use Rattle.front_laws.specs.Examples.{
+  IsOnePublish,
   OneAnswer,
   OneAnswerReopened,
   Reads,
   a1,
   abort_b,
   aborted,
+  all_of_t,
   b,
   begin,
   begin_two_phase,
@@ -38,8 +43,10 @@ ghost use Rattle.front_laws.specs.Examples.{
   loaded,
   made,
   one_published,
+  plain,
   plan,
   precommitted,
+  publish_one,
   row,
   rows,
   submitted,
@@ -117,7 +124,7 @@ pub fn an_abort_frees_the_label()
 pub fn a_snapshot_shows_what_is_visible()
     ensures before { (built : Built) → Reads (submitted built) [] }
     ensures after { (built : Built) → built.rows ≡ rows → Reads (loaded built) (row 1 5 ∷ row 1 6 ∷ row 2 7 ∷ []) }
-    ensures unknown { OneAnswer made (command.Snapshot d b Rattle.front_laws.specs.Examples.all_of_t) reply.UnknownTable }
+    ensures unknown { OneAnswer made (command.Snapshot d b all_of_t) reply.UnknownTable }
 {}
 
 /// An opening forgets what no record tells, and the numbers go on after the last range.
@@ -133,4 +140,10 @@ pub fn a_fault_of_the_keeper()
     ensures kept { (built : Built) → OneAnswerReopened (faulted built true) (begin a1) (reply.Used 1 state.Committed) }
     ensures lost { (built : Built) → OneAnswerReopened (faulted built false) (begin a1) (reply.Begun 1001 (plan 1001)) }
     ensures legal { (built : Built) → IsBuilt (plan 1) built → Legal (faulted built true) }
+{}
+
+/// A script that asks one command is served by one call of it, and its response is the reply.
+pub fn a_script_asks_one_command()
+    ensures served { Served publish_one (plain (command.Publish 0) reply.NothingToPublish ∷ []) reply.NothingToPublish }
+    ensures only { (calls : List Call) (response : Reply) → Served publish_one calls response → IsOnePublish calls response }
 {}
