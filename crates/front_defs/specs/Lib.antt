@@ -1,0 +1,15 @@
+pub mod Names
+pub mod Refusals
+pub mod Ids
+pub mod Catalogue
+pub mod Transactions
+pub mod Stored
+pub mod Defines
+pub mod Answer
+pub mod History
+pub mod Journal
+pub mod May
+pub mod Legal
+pub mod Stands
+pub mod Turn
+pub mod Script

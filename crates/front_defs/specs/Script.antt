@@ -1,0 +1,40 @@
+-- What a request asks, command after command, and what is answered in the end.
+use Rattle.std.specs.Prelude.{◌≡◌, List, [], ◌∷◌, ◌++◌, ◌⊎◌}
+use Rattle.front_defs.specs.declared.command.Command.{Command}
+use Rattle.front_defs.specs.declared.reply.Reply.{Reply}
+use Rattle.front_defs.specs.declared.history.Call.{Call}
+use Rattle.front_defs.specs.declared.history.Entry.{Entry}
+use Rattle.front_defs.specs.declared.history.Entry.TheVariants.{Made}
+use Rattle.front_defs.specs.Legal.{Legal}
+
+-- A script ends with a response, or asks a command and goes on by its reply, or does work between two turns: it goes on as it was meant to, or for want of memory.
+pub data Script (Response : Type 0) : Type 0 where
+  Ends : (response : Response) → Script Response
+  Asks : (command : Command) → (next : Reply → Script Response) → Script Response
+  Works : (done lacking : Script Response) → Script Response
+
+-- These calls, the oldest first, are those of the script, and this is its response.
+abbrev pub Served : {Response : Type 0} → Script Response → List Call → Response → Type 0
+Served (Ends x) E response = (E ≡ []) × (response ≡ x)
+Served (Asks c next) [] response = ⊥
+Served (Asks c next) (e ∷ E) response = (e.command ≡ c) × Served (next e.reply) E response
+Served (Works done lacking) E response = Served done E response ⊎ Served lacking E response
+
+-- the history after these calls, the oldest of them first
+abbrev pub after : List Call → List Entry → List Entry
+after [] H = H
+after (e ∷ E) H = after E (Made e ∷ H)
+
+-- what stood for the seen and the own list stands for them with these calls at the end of the own list
+pub record Moved (stands : List Entry → List Entry → Type 0) (seen own : List Entry) (E : List Call) : Type 0 where
+  pub seen_now : List Entry
+  pub others : List Entry
+  pub longer : seen_now ≡ others ++ seen
+  pub now : stands seen_now (after E own)
+  pub legal : Legal seen → Legal seen_now
+
+-- a script was served in full
+pub record Answered {Response : Type 0} (stands : List Entry → List Entry → Type 0) (seen own : List Entry) (script : Script Response) (response : Response) : Type 0 where
+  pub calls : List Call
+  pub served : Served script calls response
+  pub moved : Moved stands seen own calls

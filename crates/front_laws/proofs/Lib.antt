@@ -1,0 +1,15 @@
+pub mod Lists
+pub mod Keeps
+pub mod Openings
+pub mod Tidying
+pub mod Following
+pub mod Acting
+pub mod Replies
+pub mod Histories
+pub mod Places
+pub mod Published
+pub mod Seats
+pub mod Stored
+pub mod Labels
+pub mod Standing
+pub mod Worked

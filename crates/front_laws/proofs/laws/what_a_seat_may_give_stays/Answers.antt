@@ -1,0 +1,5 @@
+use Rattle.front_laws.proofs.Seats.{may_stays}
+use Rattle.front_laws.proofs.laws.what_a_seat_may_give_stays.Goals as goal
+
+pub returns : goal.returns
+returns c = may_stays
