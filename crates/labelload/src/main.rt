@@ -4,6 +4,7 @@
 ghost use Rattle.std.specs.Prelude.{◌≡◌, ◌<◌};
 
 use dl_outside::{ReaderSource, Sink, Source, Steps, WriterSink};
+use dl_values::NoMemory;
 use service::{Exit, run};
 use std::alloc::Global;
 use std::marker::Brand;
@@ -28,7 +29,7 @@ fn run_once<S: Source, K: Sink, L: Ledger>(
 }
 
 // The words behind the program's name.
-fn words_of(alloc: Global, all: env::Args) -> io::Result<Vec<String>> {
+fn words_of(alloc: Global, all: env::Args) -> Result<Vec<String>, NoMemory> {
     let mut words = Vec::new(alloc);
     for (i, word) in all.enumerate() {
         if i > 0 {
@@ -38,19 +39,33 @@ fn words_of(alloc: Global, all: env::Args) -> io::Result<Vec<String>> {
     Ok(words)
 }
 
-fn main(rt: HostRuntime) -> io::Result<ExitCode> {
+// How a run ends whose words cannot be had: a word that is no UTF-8 is of no command form.
+fn exit_without_words(error: &io::Error) -> Exit {
+    if error.kind() == io::ErrorKind::OutOfMemory {
+        Exit::NoMemory
+    } else {
+        Exit::Usage
+    }
+}
+
+// Runs the words over the standard streams.
+fn run_words(rt: &HostRuntime, all: env::Args) -> Exit {
     let alloc = rt.alloc();
-    // A word that is no UTF-8 is of no command form.
-    let exit = match env::args(&rt) {
-        Ok(all) => {
-            let words = words_of(alloc, all)?;
-            let mut source = ReaderSource::new(rt.reader());
-            let mut sink = WriterSink::new(io::writer(&rt));
-            run_once::<_, _, Brand>(alloc, &words, &mut source, &mut sink, Blank::new(1))
-        }
-        Err(_) => Exit::Usage,
+    let Ok(words) = words_of(alloc, all) else {
+        return Exit::NoMemory;
     };
-    if let Ok(text) = exit.text(alloc) {
+    let mut source = ReaderSource::new(rt.reader());
+    let mut sink = WriterSink::new(io::writer(rt));
+    run_once::<_, _, Brand>(alloc, &words, &mut source, &mut sink, Blank::new(1))
+}
+
+fn main(rt: HostRuntime) -> io::Result<ExitCode> {
+    let exit = match env::args(&rt) {
+        Ok(all) => run_words(&rt, all),
+        Err(error) => exit_without_words(&error),
+    };
+    // Where the text itself finds no memory, the status alone says what was wrong.
+    if let Ok(text) = exit.text(rt.alloc()) {
         eprint!(rt; "{text}")?;
     }
     Ok(ExitCode::from(exit.status()))
