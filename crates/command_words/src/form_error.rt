@@ -1,0 +1,22 @@
+// Why words have no form.
+use std::alloc::AllocError;
+
+/// Why the words were answered with no form.
+#[derive(Clone, Copy, Debug, PartialEq, Eq)]
+pub enum FormError {
+    /// The words are no command form.
+    Usage,
+    /// There was not enough memory to tell.
+    NoMemory,
+}
+
+impl From<AllocError> for FormError {
+    ghost use Rattle.std.specs.Prelude.{◌≡◌};
+    ghost use Rattle.command_words.specs.declared.form_error.FormError.TheVariants as error;
+
+    ghost from_gives = { λ _ e. e ≡ error.NoMemory };
+
+    fn from(_: AllocError) -> FormError {
+        FormError::NoMemory
+    }
+}
