@@ -1,3 +1,4 @@
 pub mod Dryruns
+pub mod Forms
 pub mod ReadShapes
 pub mod Scans

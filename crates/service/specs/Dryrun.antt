@@ -1,6 +1,8 @@
 -- What `dryrun` writes, and how it ends (this project's own).
 use Rattle.std.specs.Prelude.{◌≡◌, ◌⊎◌, ◌<◌, ℕ, List, [], ◌∷◌, ◌++◌, Bool, true, Option, Some, None, length, nat_lt, if◌then◌else◌}
 use Rattle.std.specs.List.{flat_map}
+use Rattle.command_words.specs.declared.form.Form.{Form}
+use Rattle.command_words.specs.declared.form.Form.TheVariants as form
 use Rattle.csv_load.specs.Body.{row_of, tally}
 use Rattle.csv_load.specs.Records.{records}
 use Rattle.csv_load.specs.declared.parsed.Parsed.{Parsed}
@@ -57,14 +59,18 @@ abbrev pub exit_of_columns : List (List ℕ) → List ℕ → Exit
 exit_of_columns columns body = exit_by_word (bad_word first_column [] columns) (exit_of_body (shape_of columns) body)
 
 -- how words and a body end the run, where no device fails and memory is ample
-abbrev pub exit_of_form : Option (List (List ℕ)) → List ℕ → Exit
+abbrev pub exit_of_form : Option Form → List ℕ → Exit
 exit_of_form None body = exit.Usage
-exit_of_form (Some columns) body = exit_of_columns columns body
+exit_of_form (Some (form.Dryrun model columns)) body = exit_of_columns columns body
 
 -- what the words write for a body
-abbrev pub text_of_form : Option (List (List ℕ)) → List ℕ → List ℕ
+abbrev pub text_of_form : Option Form → List ℕ → List ℕ
 text_of_form None body = []
-text_of_form (Some columns) body = fold_text (shape_of columns) body
+text_of_form (Some (form.Dryrun model columns)) body = fold_text (shape_of columns) body
+
+-- the first word at fault of a form
+abbrev pub bad_word_of : Form → Option ℕ
+bad_word_of (form.Dryrun model columns) = bad_word first_column [] columns
 
 -- an exit where this one is due: it, or a device failed, or memory was short; a write can fail only where all was to be
 -- written

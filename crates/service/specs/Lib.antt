@@ -1,4 +1,3 @@
 pub mod Columns
 pub mod Dryrun
 pub mod Exits
-pub mod Words

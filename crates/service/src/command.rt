@@ -4,13 +4,13 @@ ghost use Rattle.std.specs.Io.KnownBytes.{Appends, IsAtEnd, Keeps};
 ghost use Rattle.dl_outside.specs.Faults.{HasRisen};
 ghost use Rattle.dl_outside.specs.Writing.{AppendsFront};
 ghost use Rattle.service.specs.Columns.{bad_word, first_column, shape_of};
-ghost use Rattle.service.specs.Dryrun.{EndsBy, Judges, exit_of_body, exit_of_columns, exit_of_form, fold_text, text_of_form};
-ghost use Rattle.service.specs.Words.{dryrun_columns as columns_of_form};
+ghost use Rattle.command_words.specs.Words.{form_of as form_of_words};
+ghost use Rattle.service.specs.Dryrun.{EndsBy, Judges, bad_word_of, exit_of_columns, exit_of_form, fold_text, text_of_form};
 
 use crate::Exit;
 use crate::columns::read_shape;
 use crate::dryrun::folded_input;
-use crate::words::dryrun_columns;
+use command_words::{Form, FormError, form_of};
 use dl_outside::{Sink, Source, Steps, write_all};
 use std::alloc::Global;
 use std::sync::ledger::Ledger;
@@ -62,28 +62,30 @@ pub fn run<S: Source, K: Sink, L: Ledger>(
     steps: &mut Steps<L>,
 ) -> Exit
     // What is written: on success the text of the fold, and a front of it where a write failed.
-    ensures ok { result ≡ Exit.Ok → IfSome (S.left source.old) (λ body. Appends (K.written sink.old) (K.written sink.new) (text_of_form (columns_of_form (map string_bytes words.now)) body)) }
-    ensures cut { result ≡ Exit.WriteFault → IfSome (S.left source.old) (λ body. AppendsFront (K.written sink.old) (K.written sink.new) (text_of_form (columns_of_form (map string_bytes words.now)) body)) }
+    ensures ok { result ≡ Exit.Ok → IfSome (S.left source.old) (λ body. Appends (K.written sink.old) (K.written sink.new) (text_of_form (form_of_words (map string_bytes words.now)) body)) }
+    ensures cut { result ≡ Exit.WriteFault → IfSome (S.left source.old) (λ body. AppendsFront (K.written sink.old) (K.written sink.new) (text_of_form (form_of_words (map string_bytes words.now)) body)) }
     ensures nothing { result ≢ Exit.Ok → result ≢ Exit.WriteFault → Keeps (K.written sink.old) (K.written sink.new) }
     ensures read { result ≡ Exit.Ok → IsAtEnd (S.left source.new) }
 
     // When each answer comes.
-    ensures usage { (result ≡ Exit.Usage) ↔ (columns_of_form (map string_bytes words.now) ≡ None) }
-    ensures bad_def { (word : ℕ) → result ≡ Exit.BadDef word → IfSome (columns_of_form (map string_bytes words.now)) (λ columns. bad_word first_column [] columns ≡ Some word) }
-    ensures bad_words { IfSome (columns_of_form (map string_bytes words.now)) (λ columns. IfSome (bad_word first_column [] columns) (λ word. EndsBy (Exit.BadDef word) result)) }
+    ensures usage { result ≡ Exit.Usage → form_of_words (map string_bytes words.now) ≡ None }
+    ensures no_form { form_of_words (map string_bytes words.now) ≡ None → EndsBy Exit.Usage result }
+    ensures bad_def { (word : ℕ) → result ≡ Exit.BadDef word → IfSome (form_of_words (map string_bytes words.now)) (λ form. bad_word_of form ≡ Some word) }
+    ensures bad_words { IfSome (form_of_words (map string_bytes words.now)) (λ form. IfSome (bad_word_of form) (λ word. EndsBy (Exit.BadDef word) result)) }
     ensures read_fault { result ≡ Exit.ReadFault → HasRisen (S.faults source.old) (S.faults source.new) }
     ensures write_fault { result ≡ Exit.WriteFault → HasRisen (K.faults sink.old) (K.faults sink.new) }
-    ensures judged { IfSome (S.left source.old) (λ body. Judges (exit_of_form (columns_of_form (map string_bytes words.now)) body) result) }
+    ensures judged { IfSome (S.left source.old) (λ body. Judges (exit_of_form (form_of_words (map string_bytes words.now)) body) result) }
 
     // An honest run is answered: where no device fails, by what the words and the body ask for, or by want of memory.
-    ensures complete { (HasRisen (S.faults source.old) (S.faults source.new) → ⊥) → (HasRisen (K.faults sink.old) (K.faults sink.new) → ⊥) → IfSome (S.left source.old) (λ body. EndsBy (exit_of_form (columns_of_form (map string_bytes words.now)) body) result) }
+    ensures complete { (HasRisen (S.faults source.old) (S.faults source.new) → ⊥) → (HasRisen (K.faults sink.old) (K.faults sink.new) → ⊥) → IfSome (S.left source.old) (λ body. EndsBy (exit_of_form (form_of_words (map string_bytes words.now)) body) result) }
 
     ensures later { S.faults source.old ≤ S.faults source.new }
     ensures later_sink { K.faults sink.old ≤ K.faults sink.new }
     ensures quiet { steps.new ≡ steps.old }
 {
-    match dryrun_columns(words) {
-        None => Exit::Usage,
-        Some(columns) => dryrun(alloc, columns, source, sink),
+    match form_of(alloc, words) {
+        Ok(Form::Dryrun { columns, .. }) => dryrun(alloc, columns.as_slice(), source, sink),
+        Err(FormError::Usage) => Exit::Usage,
+        Err(FormError::NoMemory) => Exit::NoMemory,
     }
 }

@@ -7,7 +7,6 @@ mod dryrun;
 mod exit;
 mod exit_text;
 mod rows_text;
-mod words;
 
 pub use command::run;
 pub use exit::Exit;
