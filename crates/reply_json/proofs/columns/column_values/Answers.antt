@@ -1,8 +1,7 @@
-use Rattle.std.proofs.Common.{◌≡◌, ◌∙◌, sym, map, rules, arith}
-use Rattle.std.specs.List.{zip}
+use Rattle.std.proofs.Common.{◌∙◌, sym, arith}
 use Rattle.serde_json.specs.View.{view}
 use Rattle.reply_json.specs.Results.{column_json}
-use Rattle.reply_json.proofs.Zipped.{one_more, pushed, all_columns}
+use Rattle.reply_json.proofs.Zipped.{one_more, pushed}
 use Rattle.reply_json.proofs.columns.column_values.Goals as goal
 
 pub loop-place-preserved : goal.loop-place-preserved

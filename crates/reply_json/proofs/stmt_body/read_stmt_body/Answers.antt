@@ -1,4 +1,4 @@
-use Rattle.std.proofs.Common.{rules, arith, ◌≡◌, ◌∙◌, refl, sym, ap, Bool, true, false, ℕ, List, Option, Some, None, IsUtf8, string_bytes, if◌then◌else◌}
+use Rattle.std.proofs.Common.{rules, ◌≡◌, refl, Bool, true, false, ℕ, List, Option, None, IsUtf8, if◌then◌else◌}
 use Rattle.std.specs.Str.{is_utf8}
 use Rattle.std.proofs.lemmas.Str.{IsUtf8-from_is_utf8, is_utf8-from_IsUtf8}
 use Rattle.reply_json.specs.Statements.{stmt_of}
