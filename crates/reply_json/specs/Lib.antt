@@ -1,0 +1,4 @@
+pub mod Texts
+pub mod Loads
+pub mod Results
+pub mod Statements

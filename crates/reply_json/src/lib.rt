@@ -1,0 +1,22 @@
+//! The JSON of responses: loads, results and refusals, and the statement that a body holds.
+#![tactic(auto)]
+
+mod body_error;
+mod cells;
+mod columns;
+mod load;
+mod load_report;
+mod refusal;
+mod result;
+mod stmt_body;
+mod text;
+
+pub use body_error::BodyError;
+pub use load::render_load;
+pub use load_report::LoadReport;
+pub use refusal::{render_error, render_refusal};
+pub use result::{render_done, render_result};
+pub use stmt_body::read_stmt_body;
+
+#[cfg(test)]
+mod tests;
