@@ -9,8 +9,13 @@ use Rattle.front_defs.specs.declared.history.Entry.{Entry}
 use Rattle.front_defs.specs.Ids.{range_of, next_of, live_of}
 use Rattle.front_defs.specs.Catalogue.{databases_of, last_table_of, tables_of}
 use Rattle.front_defs.specs.Transactions.{txns_of, places_of}
-use Rattle.front_defs.specs.Stored.{lists_of, versions_of}
+use Rattle.front_defs.specs.Stored.{lists_of, versions_of, waiting_of}
 use Rattle.front_defs.specs.History.{happened, broken_of, last_faults}
+
+-- the folded rows of a load that waits to become visible, by its number
+pub record WaitingRows : Type 0 where
+  pub txn : ℕ
+  pub rows : List (List Cell)
 
 -- what contracts see of a front
 pub record View : Type 0 where
@@ -22,6 +27,7 @@ pub record View : Type 0 where
   pub next : ℕ
   pub places : ℕ
   pub tablets : List TabletLists
+  pub waiting : List WaitingRows
   pub live : ℕ
   pub broken : Bool
   pub faults : ℕ
@@ -38,6 +44,14 @@ abbrev pub versions_in : Option TabletLists → List ℕ
 versions_in None = []
 versions_in (Some k) = k.versions
 
+-- what waits of a load
+abbrev pub waiting_in : Option WaitingRows → List (List Cell)
+waiting_in None = []
+waiting_in (Some w) = w.rows
+
+abbrev pub waiting_for : ℕ → List WaitingRows → List (List Cell)
+waiting_for txn waiting = waiting_in (find (λ w. nat_eq w.txn txn) waiting)
+
 -- the catalogue
 pub record StandsCat (v : View) (Es : List Event) : Type 0 where
   pub databases : v.databases ≡ databases_of Es
@@ -51,10 +65,11 @@ pub record StandsTxns (v : View) (Es : List Event) : Type 0 where
   pub next : v.next ≡ next_of Es
   pub places : v.places ≡ places_of Es
 
--- the stored lists, one by one, and the versions
+-- the stored lists, one by one, the versions, and the folded rows of the loads that wait
 pub record StandsTablets (v : View) (Es : List Event) : Type 0 where
   pub lists : (table : ℕ) → lists_in (stored_for table v.tablets) ≡ lists_of Es table
   pub versions : (table : ℕ) → versions_in (stored_for table v.tablets) ≡ versions_of Es table
+  pub waiting : (txn : ℕ) → waiting_for txn v.waiting ≡ waiting_of Es txn
 
 -- how often the service was opened again, and whether it has to be
 pub record StandsJobs (v : View) (H : List Entry) : Type 0 where

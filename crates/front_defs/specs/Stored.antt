@@ -52,6 +52,18 @@ abbrev pub lists_of : List Event → ℕ → List (List (List Cell))
 lists_of [] table = []
 lists_of (e ∷ Es) table = lists_after e table (tables_of Es) (txns_of Es) (lists_of Es table)
 
+-- The rows that a load will add to what is stored of its table: the fold of its rows, and none where it has none or has ended.
+abbrev pub folded_some : Option Table → List (List Cell) → List (List Cell)
+folded_some t [] = []
+folded_some t (r ∷ rs) = folded t (r ∷ rs)
+
+abbrev pub waiting_by : Option Txn → List Table → List (List Cell)
+waiting_by None tables = []
+waiting_by (Some u) tables = folded_some (table_at u.table tables) u.rows
+
+abbrev pub waiting_of : List Event → ℕ → List (List Cell)
+waiting_of Es txn = waiting_by (txn_at txn (txns_of Es)) (tables_of Es)
+
 -- how many rows are stored
 abbrev pub cost_of : List (List (List Cell)) → ℕ
 cost_of [] = 0

@@ -1,5 +1,5 @@
 -- What the laws of legal histories say.
-use Rattle.std.specs.Prelude.{◌≡◌, ◌<◌, List, [], Option, Some, None, ◌⊎◌}
+use Rattle.std.specs.Prelude.{◌≡◌, ◌<◌, ℕ, List, [], Option, Some, None, ◌⊎◌}
 use Rattle.std.specs.List.{flat_map}
 use Rattle.dl_values.specs.declared.cell.Cell.{Cell}
 use Rattle.schema_models.specs.Folds.{fold_of}
@@ -7,6 +7,9 @@ use Rattle.labels.specs.declared.txn_state.TxnState.{TxnState}
 use Rattle.labels.specs.declared.txn_state.TxnState.TheVariants as state
 use Rattle.front_defs.specs.declared.catalogue.Table.{Table}
 use Rattle.front_defs.specs.declared.txn.Txn.{Txn}
+use Rattle.schema_models.specs.ShapeView.{ShapeView}
+use Rattle.front_defs.specs.Catalogue.{table_at}
+use Rattle.front_defs.specs.Journal.{There}
 use Rattle.front_laws.specs.Tidy.{label_key}
 
 -- COMMITTED or VISIBLE
@@ -33,3 +36,7 @@ joined lists = flat_map (λ l. l) lists
 abbrev pub FoldsTo : Option Table → List (List Cell) → List (List (List Cell)) → Type 0
 FoldsTo None base lists = (base ≡ []) × (lists ≡ [])
 FoldsTo (Some t) base lists = base ≡ fold_of t.shape (joined lists)
+
+-- where the transaction has that number, its table is there and has that shape
+abbrev pub HasShape : List Table → ℕ → ShapeView → Txn → Type 0
+HasShape tables id base t = t.id ≡ id → There (table_at t.table tables) (λ b. b.shape ≡ base)

@@ -1,6 +1,8 @@
 // Laws over definitions: each function does nothing, and its contract is the law.
 ghost use Rattle.std.specs.Prelude.{◌≡◌, ℕ, List, ◌∷◌, ◌++◌, ◌<◌};
 ghost use Rattle.front_defs.specs.declared.command.Command.{Command};
+ghost use Rattle.front_defs.specs.declared.command.Command.TheVariants.{Submit};
+ghost use Rattle.shadow_writes.specs.declared.built.Built.{Built};
 ghost use Rattle.front_defs.specs.declared.event.Event.{Event};
 ghost use Rattle.front_defs.specs.declared.event.Event.TheVariants.{Opened};
 ghost use Rattle.front_defs.specs.declared.history.Call.{Call};
@@ -11,11 +13,11 @@ ghost use Rattle.front_defs.specs.History.{happened, journal};
 ghost use Rattle.front_defs.specs.Ids.{next_of};
 ghost use Rattle.front_defs.specs.Journal.{Agrees, IsStory, journal_of, story};
 ghost use Rattle.front_defs.specs.Legal.{Legal};
-ghost use Rattle.front_defs.specs.May.{Carries, May};
+ghost use Rattle.front_defs.specs.May.{Carries, IsBuilt, May};
 ghost use Rattle.front_defs.specs.Stands.{StandsOpen, View};
 ghost use Rattle.front_defs.specs.Stored.{base_of, lists_of};
 ghost use Rattle.front_defs.specs.Transactions.{places_of, txns_of};
-ghost use Rattle.front_laws.specs.Laws.{CountsOnce, EarlierIsAborted, FoldsTo, IdsAscend};
+ghost use Rattle.front_laws.specs.Laws.{CountsOnce, EarlierIsAborted, FoldsTo, HasShape, IdsAscend};
 ghost use Rattle.front_laws.specs.Tidy.{Distinct, Each, Pairs, PlacesFit, Tells, published_of};
 
 /// The records of records are the records.
@@ -74,4 +76,10 @@ pub fn what_a_seat_may_give_stays()
 /// What a reply gives may be given from its entry on.
 pub fn what_a_reply_gives_may_be_given()
     ensures { (H more : List Entry) (x : Call) (c : Command) → Carries c x.reply → May (more ++ Made x ∷ H) c }
+{}
+
+/// A load that a seat may submit was built by its plan, and the plan has the shape of the load's table.
+pub fn a_submitted_load_is_of_its_table()
+    ensures built { (H : List Entry) (txn : ℕ) (built : Built) (at : ℕ) → May H (Submit txn built at) → IsBuilt built.plan built }
+    ensures shape { (H : List Entry) (txn : ℕ) (built : Built) (at : ℕ) → Legal H → May H (Submit txn built at) → Each (HasShape (tables_of (happened H)) txn built.plan.base) (txns_of (happened H)) }
 {}
