@@ -5,6 +5,21 @@ use std::alloc::{AllocError, Global};
 use std::process::Abort;
 
 // The bytes are so many requests, whatever pieces they come in.
+fn agrees(
+    rt: &impl Abort,
+    alloc: Global,
+    bytes: &[u8],
+    answer: (u64, Option<WireError>),
+) -> Result<(), AllocError> {
+    for piece in [1, 7, 4096, 100_000] {
+        let read = requests_of(alloc, &mut source(alloc, bytes, piece)?);
+        assert_eq!(rt; read.0, answer.0, "{bytes:?} in pieces of {piece}");
+        assert_eq!(rt; read.1, answer.1, "{bytes:?} in pieces of {piece}");
+    }
+    Ok(())
+}
+
+// The same, and wherever the bytes are cut, the answer to what is left does not depend on the pieces either.
 fn reads(
     rt: &impl Abort,
     alloc: Global,
@@ -12,10 +27,12 @@ fn reads(
     count: u64,
     end: Option<WireError>,
 ) -> Result<(), AllocError> {
-    for piece in [1, 7, 4096, 100_000] {
-        let read = requests_of(alloc, &mut source(alloc, bytes, piece)?);
-        assert_eq!(rt; read.0, count, "{bytes:?} in pieces of {piece}");
-        assert_eq!(rt; read.1, end, "{bytes:?} in pieces of {piece}");
+    agrees(rt, alloc, bytes, (count, end))?;
+    for cut in 0..bytes.len() {
+        let front = &bytes[..cut];
+        let at_once = requests_of(alloc, &mut source(alloc, front, 100_000)?);
+        assert!(rt; at_once.0 <= count, "{front:?}");
+        agrees(rt, alloc, front, at_once)?;
     }
     Ok(())
 }
@@ -220,6 +237,32 @@ fn refuses_long_and_cut_bodies(rt: HostRuntime) -> Result<(), AllocError> {
 }
 
 #[test]
+fn a_cut_text_has_the_requests_before_the_cut(rt: HostRuntime) -> Result<(), AllocError> {
+    let alloc = rt.alloc();
+    let two = b"PUT / HTTP/1.1\r\nContent-Length: 3\r\n\r\nabcGET / HTTP/1.1\r\n\r\n";
+    let (head, first) = (37, 40);
+    for cut in 1..two.len() {
+        let answer = if cut < head {
+            (0, Some(BadHead { at: 0 }))
+        } else if cut < first {
+            let got = (cut - head) as u64;
+            let end = CutBody {
+                at: 0,
+                got,
+                wanted: 3,
+            };
+            (0, Some(end))
+        } else if cut == first {
+            (1, None)
+        } else {
+            (1, Some(BadHead { at: 40 }))
+        };
+        agrees(&rt, alloc, &two[..cut], answer)?;
+    }
+    Ok(())
+}
+
+#[test]
 fn reads_what_curl_sends(rt: HostRuntime) -> Result<(), AllocError> {
     reads(&rt, rt.alloc(), CURL_PUT, 1, None)?;
     reads(&rt, rt.alloc(), CURL_POST, 1, None)
@@ -238,7 +281,7 @@ fn a_request_cut_at_any_byte_is_refused(rt: HostRuntime) -> Result<(), AllocErro
                 wanted: 8,
             }
         };
-        reads(&rt, rt.alloc(), &CURL_PUT[..cut], 0, Some(end))?;
+        agrees(&rt, rt.alloc(), &CURL_PUT[..cut], (0, Some(end)))?;
     }
     Ok(())
 }
