@@ -14,7 +14,7 @@ use Rattle.dl_values.specs.declared.cell.Cell.{Cell}
 use Rattle.dl_values.specs.declared.cell.Cell.TheVariants as cell
 use Rattle.dl_values.specs.declared.agg_kind.AggKind.{AggKind}
 use Rattle.dl_values.specs.declared.agg_kind.AggKind.TheVariants as kind
-use Rattle.agg_functions.specs.OrderLemmas.{cells_total, cells_same}
+use Rattle.dl_values.specs.OrderLemmas.{cells_total, cells_same}
 
 kept_sum : (x y : ℤ) → cast_unsigned w64 (int_wrapping_add w64 x y) ≡ (cast_unsigned w64 x + cast_unsigned w64 y) % 2 ^ 64
 kept_sum x y = of_z-to_z w64 ((cast_unsigned w64 x + cast_unsigned w64 y) % 2 ^ 64) (omega arith)

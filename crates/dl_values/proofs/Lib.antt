@@ -2,5 +2,5 @@ mod BlankLemmas
 mod CutLemmas
 mod EndedRows
 mod NumberLemmas
-mod OrderLemmas
 mod TextLemmas
+mod ViewLemmas

@@ -47,6 +47,13 @@ impl Row {
         Ok(())
     }
 
+    /// Takes all cells away, and keeps the room for the next ones.
+    pub fn clear(&mut self)
+        ensures { self.new ≡ [] }
+    {
+        self.cells.clear();
+    }
+
     // Moves the cells to the end of a list, and keeps the room for the next ones.
     pub(crate) fn move_to(&mut self, list: &mut Vec<Cell>) -> Result<(), NoMemory>
         ensures ok { OnOk result (list.new.items ≡ list.old.items ++ self.old) }

@@ -1,7 +1,10 @@
 // What each type reads and writes, how values are ordered, and rows in one list of cells.
-use crate::{Cell, ColType, Name, NoMemory, Row, Rows, Text, compare_rows, copy_row, write_cell};
+use crate::{
+    Cell, ColType, Name, NoMemory, Row, RowView, Rows, Text, compare_rows, copy_row, write_cell,
+};
 use std::alloc::Global;
 use std::cmp::Ordering;
+use std::collections::HashMap;
 use std::test::Fail;
 
 // The text of the cell that a text is read as; nothing where the type has no such cell.
@@ -140,5 +143,66 @@ fn names_are_compared_exactly(rt: HostRuntime) -> Result<(), Fail> {
     let name = Name::new(alloc, b"Orders")?;
     assert_eq!(rt; name, name.copy(alloc)?);
     assert_ne!(rt; name, Name::new(alloc, b"orders")?);
+    Ok(())
+}
+
+// The text of the cells of a row, each with a comma behind it.
+fn text_of(alloc: Global, row: &RowView) -> Result<Vec<u8>, NoMemory> {
+    let mut text = Vec::new(alloc);
+    for column in 0..row.len() {
+        write_cell(row.cell(column), &mut text)?;
+        text.push(b',')?;
+    }
+    Ok(text)
+}
+
+#[test]
+fn a_row_is_looked_at_side_by_side_and_column_after_column(rt: HostRuntime) -> Result<(), Fail> {
+    let alloc = rt.alloc();
+    let mut row = Row::new(alloc);
+    for number in 1..7 {
+        row.push(Cell::Int(number))?;
+    }
+    let whole = text_of(alloc, &RowView::of(&row))?;
+    assert_eq!(rt; whole.as_slice(), b"1,2,3,4,5,6,".as_slice());
+    let table: [(usize, usize, &[u8]); 6] = [
+        (1, 0, b"1,2,3,4,5,6,"),
+        (2, 0, b"1,3,5,"),
+        (2, 1, b"2,4,6,"),
+        (3, 1, b"2,5,"),
+        (6, 0, b"1,"),
+        (6, 5, b"6,"),
+    ];
+    for (rows, at, wanted) in table {
+        if rows != 0 && at < rows && row.cells().len() % rows == 0 {
+            let text = text_of(alloc, &RowView::across(row.cells(), rows, at))?;
+            assert_eq!(rt; text.as_slice(), wanted);
+        }
+    }
+    assert_eq!(rt; RowView::across(&[], 4, 3).len(), 0);
+    Ok(())
+}
+
+#[test]
+fn a_row_that_was_cleared_takes_other_cells(rt: HostRuntime) -> Result<(), Fail> {
+    let alloc = rt.alloc();
+    let mut row = Row::new(alloc);
+    row.push(Cell::Int(1))?;
+    row.clear();
+    assert_eq!(rt; row.cells().len(), 0);
+    row.push(Cell::Int(2))?;
+    let text = text_of(alloc, &RowView::of(&row))?;
+    assert_eq!(rt; text.as_slice(), b"2,".as_slice());
+    Ok(())
+}
+
+#[test]
+fn a_name_is_found_by_its_hash(rt: HostRuntime) -> Result<(), Fail> {
+    let alloc = rt.alloc();
+    let mut numbers = HashMap::new(alloc);
+    let _ = numbers.insert(Name::new(alloc, b"orders")?, 1)?;
+    let _ = numbers.insert(Name::new(alloc, b"Orders")?, 2)?;
+    assert_eq!(rt; numbers.get(&Name::new(alloc, b"orders")?), Some(&1));
+    assert_eq!(rt; numbers.get(&Name::new(alloc, b"order")?), None);
     Ok(())
 }

@@ -4,7 +4,7 @@ use Rattle.std.proofs.Math.Seq.{drop-cons}
 use Rattle.std.specs.Ordering.{is_gt}
 use Rattle.std.specs.declared.cmp.Ordering.{Ordering}
 use Rattle.std.specs.declared.cmp.Ordering.TheVariants.{Less, Equal, Greater}
-use Rattle.agg_functions.specs.OrderLemmas.{rows_total, rows_same}
+use Rattle.dl_values.specs.OrderLemmas.{rows_total, rows_same}
 use Rattle.dl_values.specs.Order.{row_cmp}
 use Rattle.dl_values.specs.declared.cell.Cell.{Cell}
 use Rattle.fold_laws.proofs.Folds.{fold_fixed}

@@ -2,6 +2,7 @@
 #![tactic(auto)]
 
 mod ascending;
+mod copies;
 mod folds;
 mod key_rule;
 mod keyed;
@@ -10,7 +11,7 @@ mod prefix;
 mod runs;
 mod sorting;
 
-pub use folds::fold_rows;
+pub use folds::{fold_rows, fold_rows_of};
 
 #[cfg(test)]
 mod tests;

@@ -1,5 +1,5 @@
 // Tables of folds, beside the plain fold.
-use crate::fold_rows;
+use crate::{fold_rows, fold_rows_of};
 use dl_values::{AggKind, Cell, ColType, Name, NoMemory, Row, Rows, Text, compare_slices};
 use schema_models::{ColumnDef, Model, Role, Shape, fold};
 use std::alloc::Global;
@@ -60,7 +60,7 @@ fn are_same(a: &Rows, b: &Rows) -> bool {
     true
 }
 
-// Whether the quick fold of these rows is the plain one, and these many rows.
+// Whether the quick folds of these rows are the plain one, and these many rows.
 fn agrees(
     alloc: Global,
     model: Model,
@@ -71,9 +71,13 @@ fn agrees(
     let Some(shape) = shape(alloc, model, ColType::BigInt, role)? else {
         return Ok(false);
     };
-    let plain = fold(alloc, &shape, &rows(alloc, of)?)?;
-    let quick = fold_rows(alloc, &shape, rows(alloc, of)?)?;
-    Ok(quick.len() == count && are_same(&quick, &plain))
+    let given = rows(alloc, of)?;
+    let plain = fold(alloc, &shape, &given)?;
+    let kept = fold_rows_of(alloc, &shape, &given)?;
+    let again = fold_rows_of(alloc, &shape, &kept)?;
+    let quick = fold_rows(alloc, &shape, given)?;
+    let same = are_same(&kept, &plain) && are_same(&again, &plain) && are_same(&quick, &plain);
+    Ok(same && plain.len() == count)
 }
 
 #[test]

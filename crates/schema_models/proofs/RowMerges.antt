@@ -1,7 +1,7 @@
 -- Merging rows is associative and keeps the key, so that the fold of each model is a fold by key with all its laws.
 use Rattle.std.proofs.Common.{◌≡◌, ℕ, ◌+◌, List, [], ◌∷◌, take, refl, ap, ap₂, sym, ◌∙◌, subst, add-one}
 use Rattle.agg_functions.specs.MergeLemmas.{merge_assoc}
-use Rattle.agg_functions.specs.OrderLemmas.{rows_total, rows_same}
+use Rattle.dl_values.specs.OrderLemmas.{rows_total, rows_same}
 use Rattle.dl_values.specs.Order.{row_cmp}
 use Rattle.dl_values.specs.declared.cell.Cell.{Cell}
 use Rattle.fold_laws.proofs.Merges.{gathers, fold_rises}

@@ -2,7 +2,7 @@ use Rattle.std.proofs.Common.{rules}
 use Rattle.std.specs.Ordering.{is_lt}
 use Rattle.std.proofs.lemmas.List.Sorted.{ranks_by}
 use Rattle.std.proofs.lemmas.Fn.{always_returns_same}
-use Rattle.agg_functions.specs.OrderLemmas.{rows_total, rows_same}
+use Rattle.dl_values.specs.OrderLemmas.{rows_total, rows_same}
 use Rattle.dl_values.specs.Order.{row_cmp}
 use Rattle.fold_laws.proofs.Streams.{ascends_sorted, of_stable}
 use Rattle.row_fold.specs.Sorted.{keyed_key}

@@ -1,4 +1,4 @@
--- The order of cells and rows is total, and only the same ties.
+-- The order of cells and rows is total, and only the same ties, as terms that the law of an impl can cite.
 use Rattle.std.proofs.Common.{◌≡◌, ℕ, ℤ, pos, List, [], refl, sym, ap, ◌∙◌}
 use Rattle.std.specs.Cmp.{IsTotalOrder}
 use Rattle.std.specs.Cmp.Lexicographic.{slice_cmp}
