@@ -38,6 +38,16 @@ impl Eq for Name {
     ghost laws = { Prim.search (comparing, rules) };
 }
 
+impl Hash for Name {
+    ghost hash_input = { λ n. fed.slice (λ b. fed.u8 b) n };
+
+    ghost respects_eq = { Prim.search (hashing, rules) };
+
+    fn hash<H: Hasher>(&self, state: &mut H) {
+        self.bytes.as_slice().hash(state);
+    }
+}
+
 impl Name {
     /// A name of its own with these bytes.
     pub fn new(alloc: Global, bytes: &[u8]) -> Result<Name, NoMemory>
