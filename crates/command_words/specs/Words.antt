@@ -14,9 +14,9 @@ is_dashed (c ∷ cs) = c == 45
 abbrev pub is_option : List ℕ → Bool
 is_option word = is_dashed word || bytes_eq word (codes "help")
 
--- the letters of the models served: `A`
+-- the letters of the models: `A`, `D` and `U`
 abbrev pub is_model : ℕ → Bool
-is_model letter = letter == 65
+is_model letter = (letter == 65) || (letter == 68) || (letter == 85)
 
 -- the model that a word names, by its letter alone
 abbrev pub model_of : List ℕ → Option ℕ

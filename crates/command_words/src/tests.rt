@@ -26,8 +26,10 @@ fn told(alloc: Global, texts: &[&str]) -> Result<String, FormError> {
 
 #[test]
 fn forms_are_told(rt: HostRuntime) -> Result<(), Fail> {
-    let table: [(&[&str], &str); 6] = [
+    let table: [(&[&str], &str); 8] = [
         (&["dryrun", "A", "k:INT:KEY"], "A,k:INT:KEY"),
+        (&["dryrun", "D", "k:INT:KEY"], "D,k:INT:KEY"),
+        (&["dryrun", "U", "k:INT:KEY"], "U,k:INT:KEY"),
         (
             &["dryrun", "A", "k:INT:KEY", "v:BIGINT:SUM"],
             "A,k:INT:KEY,v:BIGINT:SUM",
@@ -46,7 +48,9 @@ fn forms_are_told(rt: HostRuntime) -> Result<(), Fail> {
 
 #[test]
 fn other_words_are_usage(rt: HostRuntime) -> Result<(), Fail> {
-    let table: [&[&str]; 28] = [
+    let table: [&[&str]; 30] = [
+        &["dryrun", "d", "k:INT:KEY"],
+        &["dryrun", "DU", "k:INT:KEY"],
         &[],
         &[""],
         &["dryrun"],

@@ -1,6 +1,6 @@
 -- A number for each row that is smaller only where the row is: the kind of its first cell in the top two bits, and then
 -- the number or the day (this project's own).
-use Rattle.std.specs.Prelude.{ℕ, ◌+◌, ◌-◌, min, ℤ, pos, negsuc, List, [], ◌∷◌}
+use Rattle.std.specs.Prelude.{ℕ, ◌+◌, ◌-◌, ◌==◌, ◌&&◌, Bool, not, nat_lt, min, ℤ, pos, negsuc, List, [], ◌∷◌}
 use Rattle.dl_values.specs.declared.cell.Cell.{Cell}
 use Rattle.dl_values.specs.declared.cell.Cell.TheVariants as cell
 
@@ -18,3 +18,7 @@ cell_prefix (cell.Text t) = 13835058055282163712
 abbrev pub row_prefix : List Cell → ℕ
 row_prefix [] = 0
 row_prefix (c ∷ cs) = cell_prefix c
+
+-- whether no other cell has this number: it is that of an integer or a day, short of the numbers at which those stay
+abbrev pub is_exact : ℕ → Bool
+is_exact n = nat_lt 4611686018427387904 n && nat_lt n 13835058055282163711 && not (n == 9223372036854775807)

@@ -3,6 +3,7 @@ ghost use Rattle.std.specs.Prelude.{◌≡◌, ◌<◌};
 ghost use Rattle.schema_models.specs.ShapeView.{key_count};
 
 use crate::keyed::Keyed;
+use crate::prefix::is_exact;
 use dl_values::{Cell, compare_slices};
 use schema_models::{Model, Shape};
 use std::cmp::Ordering;
@@ -23,6 +24,7 @@ impl<'a> KeyRule<'a> {
     ghost use Rattle.dl_values.specs.Order.{row_cmp};
     ghost use Rattle.schema_models.specs.Folds.{key_of};
     ghost use Rattle.row_fold.specs.Follows as follow;
+    ghost use Rattle.row_fold.specs.Sorted.{IsSingle};
     ghost use Rattle.schema_models.specs.declared.model.Model.TheVariants as model;
 
     pub fn new(shape: &'a Shape) -> KeyRule<'a>
@@ -57,7 +59,15 @@ impl<'a> KeyRule<'a> {
         }
     }
 
-    // How the keys of two rows stand to each other. The numbers decide, but where they are the same.
+    // Whether a key is one cell.
+    fn is_single(&self) -> bool
+        ensures { IsTrue result → IsSingle self.now.shape.now }
+    {
+        self.width == 1 && !self.keeps_all()
+    }
+
+    // How the keys of two rows stand to each other. The numbers decide, but where they are the same number of other cells
+    // too, or of the first of more cells.
     pub fn compare(&self, a: &Keyed, b: &Keyed) -> Ordering
         ensures { result ≡ row_cmp (key_of self.now.shape.now a.now.row.now) (key_of self.now.shape.now b.now.row.now) }
     {
@@ -66,6 +76,9 @@ impl<'a> KeyRule<'a> {
         }
         if b.prefix < a.prefix {
             return Ordering::Greater;
+        }
+        if self.is_single() && is_exact(a.prefix) {
+            return Ordering::Equal;
         }
         compare_slices(self.key(a.row), self.key(b.row))
     }

@@ -6,12 +6,16 @@ mod copies;
 mod folds;
 mod key_rule;
 mod keyed;
+mod lists;
 mod merging;
 mod prefix;
 mod runs;
+mod sorted_rows;
 mod sorting;
 
 pub use folds::{fold_rows, fold_rows_of};
+pub use lists::{fold, fold_sorted};
+pub use sorted_rows::SortedRows;
 
 #[cfg(test)]
 mod tests;

@@ -10,7 +10,7 @@ ghost use Rattle.schema_models.specs.declared.model.Model.TheVariants as model;
 use crate::key_rule::KeyRule;
 use crate::keyed::Keyed;
 use crate::runs::{begin, end, fill, merge_into};
-use dl_values::{Cell, NoMemory, Row, Rows, compare_slices};
+use dl_values::{Cell, NoMemory, Row, Rows};
 use std::alloc::Global;
 use std::cmp::Ordering;
 
@@ -31,7 +31,7 @@ fn take_next(
     ensures ascends { OnOk result ((rest : List (List Cell)) → Ascends row_cmp (key_of rule.now.shape.now) (made.old.items ∷ next.now ∷ rest)
         → Ascends row_cmp (key_of rule.now.shape.now) (made.new.items ∷ rest)) }
 {
-    match compare_slices(rule.key(made), rule.key(next)) {
+    match rule.compare(&Keyed::new(made), &Keyed::new(next)) {
         Ordering::Equal => merge_into(alloc, rule.shape.columns(), made, next),
         _ => {
             end(out, room, made)?;

@@ -38,3 +38,12 @@ pub fn prefix_of(row: &[Cell]) -> u64
         [first, ..] => prefix_of_cell(first),
     }
 }
+
+// Whether no other cell has this number.
+pub fn is_exact(prefix: u64) -> bool
+    ensures { result ≡ prefixes.is_exact prefix }
+{
+    0x4000_0000_0000_0000 < prefix
+        && prefix < 0xbfff_ffff_ffff_ffff
+        && prefix != 0x7fff_ffff_ffff_ffff
+}

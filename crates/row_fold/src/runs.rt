@@ -2,7 +2,7 @@
 ghost use Rattle.std.specs.Prelude.{◌≡◌, ◌++◌, ◌∷◌, [], OnOk};
 ghost use Rattle.schema_models.specs.Folds.{merged_by_role, merged_row};
 
-use dl_values::{Cell, NoMemory, Row, Rows, copy_cell};
+use dl_values::{AggKind, Cell, NoMemory, Row, Rows, copy_cell};
 use schema_models::{ColumnDef, Role, merge_by_role};
 use std::alloc::Global;
 use std::mem;
@@ -11,13 +11,21 @@ use std::mem;
 fn merge_cell(alloc: Global, role: Role, old: &mut Cell, new: &Cell) -> Result<(), NoMemory>
     ensures { OnOk result (old.new ≡ merged_by_role role old.old new.now) }
 {
-    if role == Role::Key {
-        return Ok(());
+    match (role, &*old, new) {
+        (Role::Key, _, _) => Ok(()),
+        // The most frequent case takes no cell away.
+        (Role::Agg(AggKind::Sum), Cell::Int(sum), Cell::Int(more)) => {
+            let sum = sum.wrapping_add(*more);
+            *old = Cell::Int(sum);
+            Ok(())
+        }
+        (role, _, new) => {
+            let newer = copy_cell(alloc, new)?;
+            let older = mem::replace(old, Cell::Null);
+            *old = merge_by_role(role, older, newer);
+            Ok(())
+        }
     }
-    let newer = copy_cell(alloc, new)?;
-    let older = mem::replace(old, Cell::Null);
-    *old = merge_by_role(role, older, newer);
-    Ok(())
 }
 
 // Merges a newer row into the cells of an old one.

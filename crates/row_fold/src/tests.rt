@@ -1,9 +1,17 @@
 // Tables of folds, beside the plain fold.
-use crate::{fold_rows, fold_rows_of};
-use dl_values::{AggKind, Cell, ColType, Name, NoMemory, Row, Rows, Text, compare_slices};
+ghost use Rattle.std.specs.Prelude.{◌≡◌, ◌<◌};
+
+use crate::{SortedRows, fold as fold_list, fold_rows, fold_rows_of, fold_sorted};
+use dl_outside::Steps;
+use dl_values::{
+    AggKind, Cell, ColType, Name, NoMemory, Row, Rows, Text, compare_slices, write_cell,
+};
 use schema_models::{ColumnDef, Model, Role, Shape, fold};
 use std::alloc::Global;
 use std::cmp::Ordering;
+use std::marker::Brand;
+use std::sync::Arc;
+use std::sync::ledger::{Blank, Ledger};
 use std::test::Fail;
 
 type Pair = (Option<i64>, Option<i64>);
@@ -131,5 +139,84 @@ fn keys_of_texts_are_in_order(rt: HostRuntime) -> Result<(), Fail> {
     let plain = fold(alloc, &shape, &texts(alloc)?)?;
     assert_eq!(rt; quick.len(), 3);
     assert!(rt; are_same(&quick, &plain));
+    Ok(())
+}
+
+fn list(alloc: Global, of: &[Pair]) -> Result<Vec<Row>, NoMemory> {
+    let mut list = Vec::new(alloc);
+    for (key, value) in of {
+        list.push(row(alloc, cell(*key), *value)?)?;
+    }
+    Ok(list)
+}
+
+fn gather(rows: Vec<Row>, alloc: Global) -> Result<Rows, NoMemory> {
+    let mut out = Rows::new(alloc);
+    for row in rows {
+        out.push(row)?;
+    }
+    Ok(out)
+}
+
+#[test]
+fn lists_fold_as_rows_do(rt: HostRuntime) -> Result<(), Fail> {
+    let alloc = rt.alloc();
+    let shape = shape(
+        alloc,
+        Model::Aggregate,
+        ColType::BigInt,
+        Role::Agg(AggKind::Min),
+    )?
+    .ok_or("no shape")?;
+    let given = [(Some(3), Some(1)), (None, Some(2)), (Some(3), Some(-1))];
+    let folded = gather(fold_list(alloc, &shape, list(alloc, &given)?)?, alloc)?;
+    let wanted = rows(alloc, &[(None, Some(2)), (Some(3), Some(-1))])?;
+    assert!(rt; are_same(&folded, &wanted));
+    let one = list(alloc, &[(Some(3), Some(1))])?;
+    let folded = gather(fold_list(alloc, &shape, one)?, alloc)?;
+    assert_eq!(rt; folded.len(), 1);
+    Ok(())
+}
+
+#[test]
+fn a_sorted_list_of_no_rows_folds_to_none(rt: HostRuntime) -> Result<(), Fail> {
+    let alloc = rt.alloc();
+    let shape = shape(alloc, Model::Unique, ColType::BigInt, Role::Plain)?.ok_or("no shape")?;
+    let none = fold_sorted(alloc, &shape, Vec::new(alloc))?;
+    assert_eq!(rt; none.len(), 0);
+    Ok(())
+}
+
+// The text of all rows, each looked at by its place.
+fn told<R: SortedRows, L: Ledger>(
+    alloc: Global,
+    rows: &R,
+    blank: Blank,
+) -> Result<Vec<u8>, NoMemory>
+    requires name { blank.name ≡ L.name }
+    requires parts { blank.parts ≡ L.parts }
+    requires some { 0 < L.parts }
+{
+    let mut steps: Steps<L> = Steps::new(blank);
+    let mut text = Vec::new(alloc);
+    for place in 0..rows.len() {
+        let row = rows.row(place, &mut steps);
+        for column in 0..row.len() {
+            write_cell(row.cell(column), &mut text)?;
+            text.push(b';')?;
+        }
+    }
+    Ok(text)
+}
+
+#[test]
+fn rows_are_looked_at_one_by_one_also_where_they_are_shared(rt: HostRuntime) -> Result<(), Fail> {
+    let alloc = rt.alloc();
+    let given = rows(alloc, &[(None, Some(2)), (Some(3), Some(-1))])?;
+    let plain = told::<Rows, Brand>(alloc, &given, Blank::new(1))?;
+    assert_eq!(rt; plain.as_slice(), b"\\N;2;3;-1;".as_slice());
+    let shared = Arc::new(alloc, given)?;
+    let again = told::<Arc<Rows>, Brand>(alloc, &shared, Blank::new(1))?;
+    assert_eq!(rt; again.as_slice(), plain.as_slice());
     Ok(())
 }

@@ -2,30 +2,23 @@
 use Rattle.std.specs.Prelude.{◌≡◌, ℕ, ◌+◌, ◌==◌, ◌||◌, List, [], ◌∷◌, ◌++◌, Bool, true, Option, Some, None, is_some, codes, if◌then◌else◌, take, drop, length, position, option_map}
 use Rattle.std.specs.Option.{option_and_then}
 use Rattle.std.specs.Str.{bytes_eq}
-use Rattle.dl_values.specs.declared.agg_kind.AggKind.TheVariants as agg
 use Rattle.dl_values.specs.declared.col_type.ColType.{ColType}
-use Rattle.dl_values.specs.declared.col_type.ColType.TheVariants as kind
 use Rattle.schema_models.specs.Faults.{first_of}
 use Rattle.schema_models.specs.ShapeRules.{column_faults}
 use Rattle.schema_models.specs.ShapeView.{ShapeView}
 use Rattle.schema_models.specs.declared.column_def.ColumnDef.{ColumnDef}
+use Rattle.schema_models.specs.declared.model.Model.{Model}
 use Rattle.schema_models.specs.declared.model.Model.TheVariants as model
 use Rattle.schema_models.specs.declared.role.Role.{Role}
-use Rattle.schema_models.specs.declared.role.Role.TheVariants as role
 use Rattle.schema_models.specs.declared.shape_error.ShapeError.{ShapeError}
 use Rattle.schema_models.specs.declared.shape_error.ShapeError.TheVariants as fault
+use Rattle.service.specs.TypeWords.{role_of, type_of}
 use Rattle.service.specs.declared.exit.Exit.{Exit}
 use Rattle.service.specs.declared.exit.Exit.TheVariants as exit
 
 -- the parts of a text before and behind its first colon, where it has one
 abbrev pub cut_at_colon : List ℕ → Option (List ℕ × List ℕ)
 cut_at_colon text = option_map (λ i. (take i text, drop (i + 1) text)) (position (λ b. b == 58) text)
-
-abbrev pub type_of : List ℕ → Option ColType
-type_of word = if bytes_eq word (codes "INT") then Some kind.Int else if bytes_eq word (codes "BIGINT") then Some kind.BigInt else None
-
-abbrev pub role_of : List ℕ → Option Role
-role_of word = if bytes_eq word (codes "KEY") then Some role.Key else if bytes_eq word (codes "SUM") then Some (role.Agg agg.Sum) else None
 
 -- a nullable column without a default
 abbrev pub column : List ℕ → Option ColType → Option Role → Option ColumnDef
@@ -50,19 +43,19 @@ unfoldable pub columns_of : List (List ℕ) → List ColumnDef
 columns_of [] = []
 columns_of (word ∷ words) = onto_columns (column_of word) (columns_of words)
 
--- whether a column may not stand behind these columns of an Aggregate table, which has at most 64
-abbrev pub is_refused : List ColumnDef → ColumnDef → Bool
-is_refused before c = (length before == 64) || is_some (first_of (column_faults model.Aggregate before c))
+-- whether a column may not stand behind these columns of a table of a model, which has at most 64
+abbrev pub is_refused : Model → List ColumnDef → ColumnDef → Bool
+is_refused m before c = (length before == 64) || is_some (first_of (column_faults m before c))
 
 -- the number of the first word at fault, where the first of these has the number n: it is no column, or its column may not
 -- stand behind those before it
-abbrev pub bad_from : ℕ → List ColumnDef → Option ColumnDef → (ColumnDef → Option ℕ) → Option ℕ
-bad_from n before None later = Some n
-bad_from n before (Some c) later = if is_refused before c then Some n else later c
+abbrev pub bad_from : Model → ℕ → List ColumnDef → Option ColumnDef → (ColumnDef → Option ℕ) → Option ℕ
+bad_from m n before None later = Some n
+bad_from m n before (Some c) later = if is_refused m before c then Some n else later c
 
-unfoldable pub bad_word : ℕ → List ColumnDef → List (List ℕ) → Option ℕ
-bad_word n before [] = None
-bad_word n before (word ∷ words) = bad_from n before (column_of word) (λ c. bad_word (n + 1) (before ++ c ∷ []) words)
+unfoldable pub bad_word : Model → ℕ → List ColumnDef → List (List ℕ) → Option ℕ
+bad_word m n before [] = None
+bad_word m n before (word ∷ words) = bad_from m n before (column_of word) (λ c. bad_word m (n + 1) (before ++ c ∷ []) words)
 
 -- the number of the first column word: the command is word 1, and the model word 2
 abbrev pub first_column : ℕ
@@ -79,12 +72,16 @@ place_of (fault.KeyAfterValue column) = column
 place_of (fault.BadAgg column) = column
 place_of (fault.BadDefault column) = column
 
--- the Aggregate table of column words
-abbrev pub shape_of : List (List ℕ) → ShapeView
-shape_of words = record { model = model.Aggregate; columns = columns_of words }
+-- the model of a letter: `A` is Aggregate, `U` is Unique, and `D`, the last one that a form may have, is Duplicate
+abbrev pub model_of : ℕ → Model
+model_of letter = if letter == 65 then model.Aggregate else if letter == 85 then model.Unique else model.Duplicate
+
+-- the table of a model and column words
+abbrev pub shape_of : Model → List (List ℕ) → ShapeView
+shape_of m words = record { model = m; columns = columns_of words }
 
 -- why column words are refused: a word is at fault, which the refusal names, or memory was short
-abbrev pub RefusesWords : List (List ℕ) → Exit → Type 0
-RefusesWords words (exit.BadDef word) = bad_word first_column [] words ≡ Some word
-RefusesWords words exit.NoMemory = Unit {0}
-RefusesWords words _ = ⊥
+abbrev pub RefusesWords : Model → List (List ℕ) → Exit → Type 0
+RefusesWords m words (exit.BadDef word) = bad_word m first_column [] words ≡ Some word
+RefusesWords m words exit.NoMemory = Unit {0}
+RefusesWords m words _ = ⊥

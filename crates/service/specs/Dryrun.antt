@@ -10,7 +10,8 @@ use Rattle.dl_values.specs.Write.{cell_text}
 use Rattle.dl_values.specs.declared.cell.Cell.{Cell}
 use Rattle.schema_models.specs.Folds.{fold_of}
 use Rattle.schema_models.specs.ShapeView.{ShapeView}
-use Rattle.service.specs.Columns.{bad_word, first_column, shape_of}
+use Rattle.schema_models.specs.declared.model.Model.{Model}
+use Rattle.service.specs.Columns.{bad_word, first_column, model_of, shape_of}
 use Rattle.service.specs.declared.exit.Exit.{Exit}
 use Rattle.service.specs.declared.exit.Exit.TheVariants as exit
 
@@ -55,22 +56,22 @@ abbrev pub exit_by_word : Option ℕ → Exit → Exit
 exit_by_word (Some word) later = exit.BadDef word
 exit_by_word None later = later
 
-abbrev pub exit_of_columns : List (List ℕ) → List ℕ → Exit
-exit_of_columns columns body = exit_by_word (bad_word first_column [] columns) (exit_of_body (shape_of columns) body)
+abbrev pub exit_of_columns : Model → List (List ℕ) → List ℕ → Exit
+exit_of_columns m columns body = exit_by_word (bad_word m first_column [] columns) (exit_of_body (shape_of m columns) body)
 
 -- how words and a body end the run, where no device fails and memory is ample
 abbrev pub exit_of_form : Option Form → List ℕ → Exit
 exit_of_form None body = exit.Usage
-exit_of_form (Some (form.Dryrun model columns)) body = exit_of_columns columns body
+exit_of_form (Some (form.Dryrun letter columns)) body = exit_of_columns (model_of letter) columns body
 
 -- what the words write for a body
 abbrev pub text_of_form : Option Form → List ℕ → List ℕ
 text_of_form None body = []
-text_of_form (Some (form.Dryrun model columns)) body = fold_text (shape_of columns) body
+text_of_form (Some (form.Dryrun letter columns)) body = fold_text (shape_of (model_of letter) columns) body
 
 -- the first word at fault of a form
 abbrev pub bad_word_of : Form → Option ℕ
-bad_word_of (form.Dryrun model columns) = bad_word first_column [] columns
+bad_word_of (form.Dryrun letter columns) = bad_word (model_of letter) first_column [] columns
 
 -- an exit where this one is due: it, or a device failed, or memory was short; a write can fail only where all was to be
 -- written

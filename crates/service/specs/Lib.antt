@@ -1,3 +1,4 @@
 pub mod Columns
 pub mod Dryrun
 pub mod Exits
+pub mod TypeWords

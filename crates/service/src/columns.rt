@@ -1,9 +1,10 @@
 // The columns that column words name.
 ghost use Rattle.std.specs.Prelude.{◌≡◌, ◌<◌, ◌==◌, [], IfOk, IfErr, IfSome, None, length, map, option_map, position, string_bytes};
-ghost use Rattle.service.specs.Columns.{RefusesWords, bad_word, column, column_of, columns_of, cut_at_colon, first_column, place_of as place_of_fault, role_of as role_of_word, shape_of, type_of as type_of_word};
+ghost use Rattle.service.specs.Columns.{RefusesWords, bad_word, column, column_of, columns_of, cut_at_colon, first_column, model_of as model_of_letter, place_of as place_of_fault, shape_of};
 
 use crate::Exit;
-use dl_values::{AggKind, ColType, Name, NoMemory};
+use crate::type_words::{role_of, type_of};
+use dl_values::{ColType, Name, NoMemory};
 use schema_models::{ColumnDef, Model, Role, Shape, ShapeError};
 use std::alloc::Global;
 
@@ -29,32 +30,6 @@ fn cut(text: &[u8]) -> Option<(&[u8], &[u8])>
         None => None,
         Some(at) => Some((&text[..at], &text[at + 1..])),
     }
-}
-
-// The type that a word names.
-fn type_of(word: &[u8]) -> Option<ColType>
-    ensures { result ≡ type_of_word word.now }
-{
-    if word == b"INT".as_slice() {
-        return Some(ColType::Int);
-    }
-    if word == b"BIGINT".as_slice() {
-        return Some(ColType::BigInt);
-    }
-    None
-}
-
-// The role that a word names.
-fn role_of(word: &[u8]) -> Option<Role>
-    ensures { result ≡ role_of_word word.now }
-{
-    if word == b"KEY".as_slice() {
-        return Some(Role::Key);
-    }
-    if word == b"SUM".as_slice() {
-        return Some(Role::Agg(AggKind::Sum));
-    }
-    None
 }
 
 // The nullable column of a name, a type and a role, where both are there.
@@ -123,17 +98,28 @@ fn place_of(fault: ShapeError) -> u64
     }
 }
 
+/// The model of a letter.
+pub fn model_of(letter: u8) -> Model
+    ensures { result ≡ model_of_letter letter }
+{
+    match letter {
+        b'A' => Model::Aggregate,
+        b'U' => Model::Unique,
+        _ => Model::Duplicate,
+    }
+}
+
 /// The shape of the columns that the words name, or the first word at fault.
-pub fn read_shape(alloc: Global, words: &[String]) -> Result<Shape, Exit>
+pub fn read_shape(alloc: Global, model: Model, words: &[String]) -> Result<Shape, Exit>
     requires { 0 < length words.now }
-    ensures good { IfOk result (λ _. bad_word first_column [] (map string_bytes words.now) ≡ None) }
-    ensures shape { IfOk result (λ s. s ≡ shape_of (map string_bytes words.now)) }
-    ensures refused { IfErr result (RefusesWords (map string_bytes words.now)) }
+    ensures good { IfOk result (λ _. bad_word model first_column [] (map string_bytes words.now) ≡ None) }
+    ensures shape { IfOk result (λ s. s ≡ shape_of model (map string_bytes words.now)) }
+    ensures refused { IfErr result (RefusesWords model (map string_bytes words.now)) }
 {
     let front = &words[..words.len().min(MOST)];
     let columns = read_columns(alloc, front)?;
     let read = columns.as_slice().len();
-    match Shape::build(Model::Aggregate, columns) {
+    match Shape::build(model, columns) {
         Err(fault) => Err(Exit::BadDef {
             word: FIRST + place_of(fault),
         }),

@@ -8,37 +8,39 @@ ghost use Rattle.command_words.specs.Words.{form_of as form_of_words};
 ghost use Rattle.service.specs.Dryrun.{EndsBy, Judges, bad_word_of, exit_of_columns, exit_of_form, fold_text, text_of_form};
 
 use crate::Exit;
-use crate::columns::read_shape;
+use crate::columns::{model_of, read_shape};
 use crate::dryrun::folded_input;
 use command_words::{Form, FormError, form_of};
 use dl_outside::{Sink, Source, Steps, write_all};
+use schema_models::Model;
 use std::alloc::Global;
 use std::sync::ledger::Ledger;
 
-// The command `dryrun` with these column words.
+// The command `dryrun` of this model with these column words.
 fn dryrun<S: Source, K: Sink>(
     alloc: Global,
+    model: Model,
     columns: &[String],
     source: &mut S,
     sink: &mut K,
 ) -> Exit
     requires { 0 < length columns.now }
-    ensures ok { result ≡ Exit.Ok → IfSome (S.left source.old) (λ body. Appends (K.written sink.old) (K.written sink.new) (fold_text (shape_of (map string_bytes columns.now)) body)) }
-    ensures cut { result ≡ Exit.WriteFault → IfSome (S.left source.old) (λ body. AppendsFront (K.written sink.old) (K.written sink.new) (fold_text (shape_of (map string_bytes columns.now)) body)) }
+    ensures ok { result ≡ Exit.Ok → IfSome (S.left source.old) (λ body. Appends (K.written sink.old) (K.written sink.new) (fold_text (shape_of model (map string_bytes columns.now)) body)) }
+    ensures cut { result ≡ Exit.WriteFault → IfSome (S.left source.old) (λ body. AppendsFront (K.written sink.old) (K.written sink.new) (fold_text (shape_of model (map string_bytes columns.now)) body)) }
     ensures nothing { result ≢ Exit.Ok → result ≢ Exit.WriteFault → Keeps (K.written sink.old) (K.written sink.new) }
     ensures read { result ≡ Exit.Ok → IsAtEnd (S.left source.new) }
 
     ensures known { result ≢ Exit.Usage }
-    ensures bad_def { (word : ℕ) → result ≡ Exit.BadDef word → bad_word first_column [] (map string_bytes columns.now) ≡ Some word }
-    ensures bad_words { IfSome (bad_word first_column [] (map string_bytes columns.now)) (λ word. EndsBy (Exit.BadDef word) result) }
+    ensures bad_def { (word : ℕ) → result ≡ Exit.BadDef word → bad_word model first_column [] (map string_bytes columns.now) ≡ Some word }
+    ensures bad_words { IfSome (bad_word model first_column [] (map string_bytes columns.now)) (λ word. EndsBy (Exit.BadDef word) result) }
     ensures read_fault { result ≡ Exit.ReadFault → HasRisen (S.faults source.old) (S.faults source.new) }
     ensures write_fault { result ≡ Exit.WriteFault → HasRisen (K.faults sink.old) (K.faults sink.new) }
-    ensures judged { IfSome (S.left source.old) (λ body. Judges (exit_of_columns (map string_bytes columns.now) body) result) }
+    ensures judged { IfSome (S.left source.old) (λ body. Judges (exit_of_columns model (map string_bytes columns.now) body) result) }
 
     ensures later { S.faults source.old ≤ S.faults source.new }
     ensures later_sink { K.faults sink.old ≤ K.faults sink.new }
 {
-    match read_shape(alloc, columns) {
+    match read_shape(alloc, model, columns) {
         Ok(shape) => match folded_input(alloc, &shape, source) {
             Ok(text) => match write_all(sink, &text) {
                 Ok(()) => Exit::Ok,
@@ -53,7 +55,8 @@ fn dryrun<S: Source, K: Sink>(
 /// Runs the command that the words name, reading the source and writing the sink. The words are those behind the
 /// program's name. Reads nothing where the words are refused, and writes nothing until all is read and judged.
 ///
-/// `dryrun A COLUMN ..` folds a body whose fields end by tabs, in strict mode, and writes one row for each key.
+/// `dryrun MODEL COLUMN ..` folds a body whose fields end by tabs, in strict mode, by the model `A`, `D` or `U` (Apache
+/// Doris documentation, "Data Models"), and writes one row for each key, or in the Duplicate model each row, in order.
 pub fn run<S: Source, K: Sink, L: Ledger>(
     alloc: Global,
     words: &[String],
@@ -84,7 +87,9 @@ pub fn run<S: Source, K: Sink, L: Ledger>(
     ensures quiet { steps.new ≡ steps.old }
 {
     match form_of(alloc, words) {
-        Ok(Form::Dryrun { columns, .. }) => dryrun(alloc, columns.as_slice(), source, sink),
+        Ok(Form::Dryrun { model, columns }) => {
+            dryrun(alloc, model_of(model), columns.as_slice(), source, sink)
+        }
         Err(FormError::Usage) => Exit::Usage,
         Err(FormError::NoMemory) => Exit::NoMemory,
     }

@@ -7,9 +7,13 @@ mod dryrun;
 mod exit;
 mod exit_text;
 mod rows_text;
+mod type_words;
 
 pub use command::run;
 pub use exit::Exit;
 
 #[cfg(test)]
 mod tests;
+
+#[cfg(test)]
+mod type_tests;

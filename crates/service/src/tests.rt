@@ -20,7 +20,7 @@ fn words_of(alloc: Global, texts: &[&str]) -> Result<Vec<String>, NoMemory> {
 }
 
 // How words and a body end a run, and what is written.
-fn answer<L: Ledger>(
+pub fn answer<L: Ledger>(
     alloc: Global,
     words: &[&str],
     body: &[u8],
@@ -99,12 +99,13 @@ fn bodies_are_folded_or_refused(rt: HostRuntime) -> Result<(), Fail> {
 
 #[test]
 fn words_are_judged_in_order(rt: HostRuntime) -> Result<(), Fail> {
-    let table: [(&[&str], Exit); 18] = [
+    let table: [(&[&str], Exit); 19] = [
         (&[], Exit::Usage),
         (&["dryrun"], Exit::Usage),
         (&["dryrun", "A"], Exit::Usage),
         (&["dryrun", "a", "k:INT:KEY"], Exit::Usage),
-        (&["dryrun", "D", "k:INT:KEY"], Exit::Usage),
+        (&["dryrun", "d", "k:INT:KEY"], Exit::Usage),
+        (&["dryrun", "D", "k:INT:KEY"], Exit::Ok),
         (&["Dryrun", "A", "k:INT:KEY"], Exit::Usage),
         (&["run"], Exit::Usage),
         (&["dryrun", "A", "k:INT:KEY", "help"], Exit::Usage),
