@@ -14,9 +14,9 @@ is_dashed (c ∷ cs) = c == 45
 abbrev pub is_option : List ℕ → Bool
 is_option word = is_dashed word || bytes_eq word (codes "help")
 
--- the letters of the models served: `A`
+-- the letters of the models: `A`, `D` and `U`
 abbrev pub is_model : ℕ → Bool
-is_model letter = letter == 65
+is_model letter = (letter == 65) || (letter == 68) || (letter == 85)
 
 -- the model that a word names, by its letter alone
 abbrev pub model_of : List ℕ → Option ℕ
@@ -32,10 +32,16 @@ abbrev pub dryrun_of : List (List ℕ) → Option Form
 dryrun_of (model ∷ column ∷ columns) = dryrun_with model (column ∷ columns)
 dryrun_of _ = None
 
+-- `run`, with no word behind it
+abbrev pub run_of : List (List ℕ) → Option Form
+run_of [] = Some (form.Run None)
+run_of _ = None
+
 -- the form of words without an option
 abbrev pub form_behind : List (List ℕ) → Option Form
 form_behind [] = None
-form_behind (command ∷ words) = if bytes_eq command (codes "dryrun") then dryrun_of words else None
+form_behind (command ∷ words) =
+    if bytes_eq command (codes "dryrun") then dryrun_of words else (if bytes_eq command (codes "run") then run_of words else None)
 
 -- the form of the words behind the program's name; words that are none have none
 abbrev pub form_of : List (List ℕ) → Option Form

@@ -8,11 +8,11 @@ use crate::{Columns, Form, FormError};
 use clap::ArgMatches;
 use std::alloc::Global;
 
-// Whether a model of this letter is served.
+// Whether a letter is that of a model.
 fn is_model(letter: u8) -> bool
     ensures { result ≡ is_model_letter letter }
 {
-    letter == b'A'
+    letter == b'A' || letter == b'D' || letter == b'U'
 }
 
 // The model that a word names.
@@ -63,6 +63,9 @@ pub(crate) fn form_in(alloc: Global, matches: &ArgMatches<'_>) -> Result<Form, F
     };
     if name == "dryrun" {
         return dryrun_in(alloc, words);
+    }
+    if name == "run" {
+        return Ok(Form::Run { journal: None });
     }
     Err(FormError::Usage)
 }
