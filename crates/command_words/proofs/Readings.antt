@@ -18,7 +18,7 @@ use Rattle.clap.specs.declared.builder.value_parser.ValueParser.TheVariants as v
 use Rattle.clap.proofs.OnLiterals.{clap_on_literals}
 use Rattle.clap.proofs.WalkLemmas.{walk_stopped}
 use Rattle.command_words.specs.Command.{form_read, whole_app, dryrun_app}
-use Rattle.command_words.specs.Words.{dryrun_of, form_behind, is_dashed, is_option}
+use Rattle.command_words.specs.Words.{dryrun_of, form_behind, is_dashed, is_option, run_of}
 
 pub whole_is_simple : is_simple_and_free whole_app ≡ true
 unfolding clap_on_literals
@@ -38,6 +38,14 @@ first_of (s ∷ ss) = s
 
 abbrev leaf : Shape
 leaf = first_of whole.subs
+
+-- the command `run`, as it is built below the whole one
+abbrev second_of : List Shape → Shape
+second_of [] = dryrun_app.top
+second_of (s ∷ ss) = first_of ss
+
+abbrev run_leaf : Shape
+run_leaf = second_of whole.subs
 
 -- ---- the first word
 
@@ -59,6 +67,17 @@ dryrun_rows : (words : List Text) → subcommand_of whole_app (codes "dryrun" �
 unfolding clap_on_literals
 dryrun_rows words = rw (← walk_stopped whole.top.rules (names_of whole) at_name (codes "dryrun") [] words) refl
 
+abbrev at_run : Walk
+at_run = record (walk_from nothing_held) { stopped = Some (codes "run", []) }
+
+run_fault : (words : List Text) → fault_of whole_app (codes "run" ∷ words) ≡ or_else (level_fault run_leaf [] nothing_held words false []) []
+unfolding clap_on_literals
+run_fault words = rw (stopped_fault whole.top (names_of whole) at_run (codes "run") [] words, ← walk_stopped whole.top.rules (names_of whole) at_run (codes "run") [] words) refl
+
+run_rows : (words : List Text) → subcommand_of whole_app (codes "run" ∷ words) ≡ Some (codes "run", finished run_leaf.rules (walk run_leaf.rules [] nothing_held words).held)
+unfolding clap_on_literals
+run_rows words = rw (← walk_stopped whole.top.rules (names_of whole) at_run (codes "run") [] words) refl
+
 no_dash : (w : Text) → is_option w ≡ false → is_dashed w ≡ false
 no_dash w e = grind arith
 
@@ -74,14 +93,14 @@ not_dashes : (w : Text) → is_dashed w ≡ false → bytes_eq w (45 ∷ 45 ∷ 
 not_dashes [] e = refl
 not_dashes (b ∷ w) e = simp e
 
-other_fault : (w : Text) (words : List Text) → is_dashed w ≡ false → bytes_eq (codes "dryrun") w ≡ false
+other_fault : (w : Text) (words : List Text) → is_dashed w ≡ false → bytes_eq (codes "dryrun") w ≡ false → bytes_eq (codes "run") w ≡ false
     → fault_of whole_app (w ∷ words) ≡ kind.UnknownArgument ∷ kind.InvalidSubcommand ∷ []
 unfolding clap_on_literals
-other_fault w words e d =
+other_fault w words e d r =
     let a = long_none w e in
     let b = short_none w e in
     let f = not_dashes w e in
-    simp (a, b, f, d)
+    simp (a, b, f, d, r)
 
 nothing_read : None ≡ form_read (fault_of whole_app []) (subcommand_of whole_app [])
 unfolding clap_on_literals
@@ -259,6 +278,33 @@ dryrun_read (model ∷ column ∷ columns) plain most =
     let rows = dryrun_rows (model ∷ column ∷ columns) ∙ ap (λ (r : List Row). Some (codes "dryrun", r)) (form_rows model column columns a.0 b.0 b.1) in
     sym (ap₂ form_read fault rows)
 
+-- ---- the words of `run`
+
+run_alone : level_fault run_leaf [] nothing_held [] false [] ≡ []
+unfolding clap_on_literals
+run_alone = refl
+
+-- a word behind `run` is at fault
+run_turn : (w : Text) → is_dashed w ≡ false → turn_fault run_leaf [] (walk_from nothing_held) w ≡ kind.UnknownArgument ∷ []
+unfolding clap_on_literals
+run_turn w e =
+    let a = long_none w e in
+    let b = short_none w e in
+    let f = not_dashes w e in
+    simp (a, b, f)
+
+first_stays : (s : Shape) (w : Walk) (word : Text) (words : List Text) (k : ErrorKind) (ks more : Kinds) → turn_fault s [] w word ≡ k ∷ ks → or_else (walk_fault s [] w (word ∷ words)) more ≡ k ∷ ks
+unfolding walk_fault
+first_stays s w word words k ks more e = rw e refl
+
+run_read : (words : List Text) → list_any is_dashed words ≡ false
+    → run_of words ≡ form_read (fault_of whole_app (codes "run" ∷ words)) (subcommand_of whole_app (codes "run" ∷ words))
+run_read [] plain = sym (ap₂ form_read (run_fault [] ∙ ap (λ (k : Kinds). or_else k []) run_alone) (run_rows []))
+run_read (w ∷ words) plain =
+    let e = (neither (is_dashed w) (list_any is_dashed words) plain).0 in
+    ap (λ (k : Kinds). form_read k (subcommand_of whole_app (codes "run" ∷ w ∷ words)))
+    (sym (run_fault (w ∷ words) ∙ ap (λ (k : Kinds). or_else k []) (first_stays run_leaf (walk_from nothing_held) w words kind.UnknownArgument [] _ (run_turn w e))))
+
 no_options : (words : List Text) → list_any is_option words ≡ false → list_any is_dashed words ≡ false
 no_options [] e = refl
 no_options (w ∷ words) e =
@@ -283,14 +329,21 @@ form_is_read (w ∷ words) e most = go (bytes_eq w (codes "dryrun")) refl
     plain : (is_dashed w ≡ false) × (list_any is_dashed words ≡ false)
     plain = neither (is_dashed w) (list_any is_dashed words) (no_options (w ∷ words) e)
 
+    run : (b : Bool) → bytes_eq w (codes "dryrun") ≡ false → bytes_eq w (codes "run") ≡ b
+        → (if b then run_of words else None) ≡ form_read (fault_of whole_app (w ∷ words)) (subcommand_of whole_app (w ∷ words))
+    run true d h =
+        let same : codes "run" ≡ w = search (rules, bytes_eq-Decides, h) in
+        subst (λ v. run_of words ≡ form_read (fault_of whole_app (v ∷ words)) (subcommand_of whole_app (v ∷ words))) same (run_read words plain.1)
+    run false d h =
+        ap (λ (k : Kinds). form_read k (subcommand_of whole_app (w ∷ words)))
+        (sym (other_fault w words plain.0 (bytes_eq-sym (codes "dryrun") w ∙ d) (bytes_eq-sym (codes "run") w ∙ h)))
+
     go : (b : Bool) → bytes_eq w (codes "dryrun") ≡ b
-        → (if b then dryrun_of words else None) ≡ form_read (fault_of whole_app (w ∷ words)) (subcommand_of whole_app (w ∷ words))
+        → (if b then dryrun_of words else (if bytes_eq w (codes "run") then run_of words else None)) ≡ form_read (fault_of whole_app (w ∷ words)) (subcommand_of whole_app (w ∷ words))
     go true h =
         let same : codes "dryrun" ≡ w = search (rules, bytes_eq-Decides, h) in
         subst (λ v. dryrun_of words ≡ form_read (fault_of whole_app (v ∷ words)) (subcommand_of whole_app (v ∷ words))) same (dryrun_read words plain.1 (omega (arith, most)))
-    go false h =
-        let other : bytes_eq (codes "dryrun") w ≡ false = bytes_eq-sym (codes "dryrun") w ∙ h in
-        ap (λ (k : Kinds). form_read k (subcommand_of whole_app (w ∷ words))) (sym (other_fault w words plain.0 other))
+    go false h = run (bytes_eq w (codes "run")) h refl
 
 -- an error that is not for want of memory comes only where the words have no form
 pub no_form : (kinds : Kinds) (entered : Option (Text × List Row)) (k : ErrorKind) → (k ≡ kind.OutOfMemory → ⊥) → (k ≡ kind.OutOfMemory) ⊎ IsAmong k kinds → form_read kinds entered ≡ None

@@ -7,6 +7,7 @@ use Rattle.clap.specs.Simple.{on_top}
 use Rattle.clap.specs.Words.{App, Row, Rule, Text, all_of, first_of, new_app, new_rule, with_rule, with_subcommand}
 use Rattle.command_words.specs.Words.{dryrun_with}
 use Rattle.command_words.specs.declared.form.Form.{Form}
+use Rattle.command_words.specs.declared.form.Form.TheVariants as form
 
 -- one model
 abbrev pub model_rule : Rule
@@ -32,8 +33,12 @@ top_app = on_top (λ s. record s {
   subcommand_required = true;
 }) (new_app (codes "labelload"))
 
+-- `run`
+abbrev pub run_app : App
+run_app = on_top (λ s. record s { disable_help_flag = true }) (new_app (codes "run"))
+
 abbrev pub whole_app : App
-whole_app = with_subcommand top_app dryrun_app.top
+whole_app = with_subcommand (with_subcommand top_app dryrun_app.top) run_app.top
 
 -- the form that the rows of `dryrun` tell
 abbrev pub dryrun_in_rows : List Row → Option Form
@@ -41,7 +46,8 @@ dryrun_in_rows rows = option_and_then (λ model. option_and_then (dryrun_with mo
 
 -- the form that the name of a subcommand and its rows tell
 abbrev pub form_in_rows : Text × List Row → Option Form
-form_in_rows entered = if bytes_eq entered.0 (codes "dryrun") then dryrun_in_rows entered.1 else None
+form_in_rows entered =
+    if bytes_eq entered.0 (codes "dryrun") then dryrun_in_rows entered.1 else (if bytes_eq entered.0 (codes "run") then Some (form.Run None) else None)
 
 abbrev pub form_in_matches : Option (Text × List Row) → Option Form
 form_in_matches entered = option_and_then form_in_rows entered

@@ -32,10 +32,16 @@ abbrev pub dryrun_of : List (List ℕ) → Option Form
 dryrun_of (model ∷ column ∷ columns) = dryrun_with model (column ∷ columns)
 dryrun_of _ = None
 
+-- `run`, with no word behind it
+abbrev pub run_of : List (List ℕ) → Option Form
+run_of [] = Some (form.Run None)
+run_of _ = None
+
 -- the form of words without an option
 abbrev pub form_behind : List (List ℕ) → Option Form
 form_behind [] = None
-form_behind (command ∷ words) = if bytes_eq command (codes "dryrun") then dryrun_of words else None
+form_behind (command ∷ words) =
+    if bytes_eq command (codes "dryrun") then dryrun_of words else (if bytes_eq command (codes "run") then run_of words else None)
 
 -- the form of the words behind the program's name; words that are none have none
 abbrev pub form_of : List (List ℕ) → Option Form

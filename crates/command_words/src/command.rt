@@ -10,7 +10,7 @@ use clap::error::ErrorKind;
 use clap::{Arg, ArgMatches, Command, Error};
 use std::alloc::{AllocError, Global};
 
-// The command, which takes words without options: `dryrun MODEL COLUMN ..`.
+// The command, which takes words without options: `dryrun MODEL COLUMN ..`, and `run`.
 fn whole<'a>(alloc: Global) -> Result<Command<'a>, AllocError>
     ensures { IfOk result (λ command. app_of command ≡ whole_app) }
 {
@@ -20,12 +20,14 @@ fn whole<'a>(alloc: Global) -> Result<Command<'a>, AllocError>
         .disable_help_flag(true)
         .arg(model)?
         .arg(columns)?;
+    let run = Command::new(alloc, "run").disable_help_flag(true);
     let whole = Command::new(alloc, "labelload")
         .no_binary_name(true)
         .disable_help_flag(true)
         .disable_help_subcommand(true)
         .subcommand_required(true)
-        .subcommand(dryrun)?;
+        .subcommand(dryrun)?
+        .subcommand(run)?;
     Ok(whole)
 }
 

@@ -13,6 +13,8 @@ use std::alloc::Global;
 pub enum Form {
     /// `dryrun MODEL COLUMN ..`: the letter of the model, and one column word or more.
     Dryrun { model: u8, columns: Columns },
+    /// `run`. No further word is taken so far, so there is no journal file.
+    Run { journal: Option<String> },
 }
 
 /// The form of the words behind the program's name. Words that begin with `-` and the word `help` are sorted out before

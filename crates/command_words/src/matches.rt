@@ -64,5 +64,8 @@ pub(crate) fn form_in(alloc: Global, matches: &ArgMatches<'_>) -> Result<Form, F
     if name == "dryrun" {
         return dryrun_in(alloc, words);
     }
+    if name == "run" {
+        return Ok(Form::Run { journal: None });
+    }
     Err(FormError::Usage)
 }

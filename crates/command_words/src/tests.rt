@@ -14,19 +14,30 @@ fn words_of(alloc: Global, texts: &[&str]) -> Result<Vec<String>, AllocError> {
 // The form of words as text: its letter, and each column word behind a comma.
 fn told(alloc: Global, texts: &[&str]) -> Result<String, FormError> {
     let words = words_of(alloc, texts)?;
-    let Form::Dryrun { model, columns } = form_of(alloc, &words)?;
     let mut text = String::new(alloc);
-    text.push(char::from(model))?;
-    for word in columns.as_slice() {
-        text.push(',')?;
-        text.push_str(word)?;
+    match form_of(alloc, &words)? {
+        Form::Dryrun { model, columns } => {
+            text.push(char::from(model))?;
+            for word in columns.as_slice() {
+                text.push(',')?;
+                text.push_str(word)?;
+            }
+        }
+        Form::Run { journal } => {
+            text.push_str(if journal.is_none() {
+                "run"
+            } else {
+                "run with a journal"
+            })?;
+        }
     }
     Ok(text)
 }
 
 #[test]
 fn forms_are_told(rt: HostRuntime) -> Result<(), Fail> {
-    let table: [(&[&str], &str); 8] = [
+    let table: [(&[&str], &str); 9] = [
+        (&["run"], "run"),
         (&["dryrun", "A", "k:INT:KEY"], "A,k:INT:KEY"),
         (&["dryrun", "D", "k:INT:KEY"], "D,k:INT:KEY"),
         (&["dryrun", "U", "k:INT:KEY"], "U,k:INT:KEY"),
@@ -48,7 +59,15 @@ fn forms_are_told(rt: HostRuntime) -> Result<(), Fail> {
 
 #[test]
 fn other_words_are_usage(rt: HostRuntime) -> Result<(), Fail> {
-    let table: [&[&str]; 30] = [
+    let table: [&[&str]; 38] = [
+        &["Run"],
+        &["run", ""],
+        &["run", "run"],
+        &["run", "journal.db"],
+        &["run", "help"],
+        &["run", "-"],
+        &["--", "run"],
+        &["runs"],
         &["dryrun", "d", "k:INT:KEY"],
         &["dryrun", "DU", "k:INT:KEY"],
         &[],

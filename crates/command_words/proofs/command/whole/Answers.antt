@@ -4,7 +4,7 @@ use Rattle.clap.specs.Lexer.{usize_max}
 use Rattle.clap.specs.Words.{App, Rule, app_of, new_app, new_rule, rule_of, with_rule, with_subcommand}
 use Rattle.clap.specs.Simple.{app_of_fields, on_top}
 use Rattle.clap.specs.declared.builder.arg.Arg.{Arg}
-use Rattle.command_words.specs.Command.{columns_rule, dryrun_app, model_rule, top_app}
+use Rattle.command_words.specs.Command.{columns_rule, dryrun_app, model_rule, run_app, top_app}
 use Rattle.command_words.proofs.command.whole.Goals as goal
 
 abbrev no_help : App → App
@@ -32,5 +32,7 @@ returns c =
     ap app_of_fields c.subcommand_required.ensures ∙ ap (on_top (λ s. record s { subcommand_required = true }))
     (ap app_of_fields c.disable_help_subcommand.ensures ∙ ap (on_top (λ s. record s { disable_help_subcommand = true }))
     (ap app_of_fields c.disable_help_flag-2.ensures ∙ ap no_help
-    (ap app_of_fields c.no_binary_name.ensures ∙ ap (on_top (λ s. record s { no_binary_name = true })) c.new-4.ensures.app))) in
-    c.in_ok-whole.ensures.shape (search rules) ∙ ap₂ with_subcommand top (ap (λ (a : App). a.top) dryrun)
+    (ap app_of_fields c.no_binary_name.ensures ∙ ap (on_top (λ s. record s { no_binary_name = true })) c.new-5.ensures.app))) in
+    let run : app_of c.disable_help_flag-run.result ≡ run_app = ap app_of_fields c.disable_help_flag-run.ensures ∙ ap no_help c.new-4.ensures.app in
+    let first = c.in_ok-subcommand.ensures.shape (search rules) ∙ ap₂ with_subcommand top (ap (λ (a : App). a.top) dryrun) in
+    c.in_ok-whole.ensures.shape (search rules) ∙ ap₂ with_subcommand first (ap (λ (a : App). a.top) run)
