@@ -1,3 +1,4 @@
+mod Digits
 pub mod Dryruns
 pub mod Forms
 pub mod ReadShapes
