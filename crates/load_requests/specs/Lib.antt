@@ -1,0 +1,6 @@
+pub mod Targets
+pub mod LoadFields
+pub mod Loads
+pub mod Tokens
+pub mod Statements
+pub mod Requests
