@@ -1,3 +1,4 @@
+pub mod Bytes
 pub mod Targets
 pub mod LoadFields
 pub mod Loads

@@ -1,5 +1,6 @@
 -- What a request asks for, by its head and its body.
 use Rattle.std.specs.Prelude.{◌≡◌, ℕ, Bool, true, false, List, [], ◌∷◌, codes, Option, Some, None, refl}
+use Rattle.std.proofs.lemmas.Bool.{leb-true}
 use Rattle.http_wire.specs.declared.head.Head.{Head}
 use Rattle.reply_json.specs.Statements.{stmt_of}
 use Rattle.csv_load.specs.Options.{may_separate, separator_or_tab}
@@ -15,12 +16,12 @@ use Rattle.load_requests.specs.Statements.{statement_of}
 
 -- a body is cut at this byte; nothing may be filtered, and a value that cannot be read is null
 abbrev pub cut_at : (b : ℕ) → (may : Bool) → may_separate b ≡ may → Options → Options
-cut_at b true separates else_so = record { separator = b; ratio = 0; strict = false; separates = separates; within = refl }
+cut_at b true separates else_so = record { separator = b; ratio = 0; strict = false; separates = separates; within = leb-true 0 10000 refl }
 cut_at b false separates else_so = else_so
 
 -- a body is cut at tabs
 abbrev pub cut_at_tabs : Options
-cut_at_tabs = record { separator = 9; ratio = 0; strict = false; separates = refl; within = refl }
+cut_at_tabs = record { separator = 9; ratio = 0; strict = false; separates = refl; within = leb-true 0 10000 refl }
 
 -- how the body is read that a load's separator gives
 abbrev pub options_at : Option ℕ → Options

@@ -4,8 +4,8 @@
 --     CREATE DATABASE name [;]
 --     CREATE TABLE name (name TYPE, ..) DUPLICATE KEY (name, ..) DISTRIBUTED BY HASH (name, ..) BUCKETS 1 [;]
 --     SELECT * FROM name [;]
-use Rattle.std.specs.Prelude.{◌≡◌, ℕ, ◌==◌, ◌&&◌, Bool, true, false, not, List, [], ◌∷◌, codes, Option, Some, None, Result, Ok, Err, if◌then◌else◌}
-use Rattle.std.specs.List.{list_any}
+use Rattle.std.specs.Prelude.{◌≡◌, ℕ, ◌&&◌, Bool, true, false, not, List, [], ◌∷◌, drop, codes, Option, Some, None, Result, Ok, Err, if◌then◌else◌}
+use Rattle.std.specs.List.{list_any, prefix_len}
 use Rattle.std.specs.Str.{bytes_eq, str_eq_ignore_ascii_case}
 use Rattle.dl_values.specs.declared.col_type.ColType.{ColType}
 use Rattle.dl_values.specs.declared.col_type.ColType.TheVariants as type
@@ -19,7 +19,8 @@ use Rattle.load_requests.specs.declared.statement.Statement.{Statement}
 use Rattle.load_requests.specs.declared.statement.Statement.TheVariants as statement
 use Rattle.load_requests.specs.declared.stop.Stop.{Stop}
 use Rattle.load_requests.specs.declared.stop.Stop.TheVariants as stop
-use Rattle.load_requests.specs.Tokens.{Token, begins_word, tokens_of}
+use Rattle.load_requests.specs.Bytes.{begins_word, is_zero}
+use Rattle.load_requests.specs.Tokens.{Token, tokens_of}
 
 -- the words that are no names
 abbrev pub reserved : List (List ℕ)
@@ -49,10 +50,9 @@ is_name (kind.Plain, bytes) = is_word bytes && not (is_reserved bytes)
 is_name (kind.Quoted, bytes) = true
 is_name (kind.Number, bytes) = false
 
--- digits that write the number 1
+-- digits that write the number 1: any number of zeros, and then a 1
 abbrev pub writes_one : List ℕ → Bool
-writes_one [] = false
-writes_one (d ∷ ds) = if d == 48 then writes_one ds else bytes_eq (d ∷ ds) (codes "1")
+writes_one digits = bytes_eq (drop (prefix_len is_zero digits) digits) (codes "1")
 
 abbrev pub is_one : Token → Bool
 is_one (kind.Plain, bytes) = false

@@ -1,26 +1,11 @@
 -- The tokens of a statement (this project's own, after the SQL of the Apache Doris documentation). The longest token counts.
 -- Blanks are space, tab, LF and CR. A byte that begins no word, name or number stands as a token alone: a sign, or something
 -- that no statement has.
-use Rattle.std.specs.Prelude.{ℕ, zero, suc, ◌+◌, ◌==◌, ◌&&◌, ◌||◌, Bool, not, nat_lt, nat_le, List, [], ◌∷◌, take, drop, length, Option, Some, None, if◌then◌else◌}
+use Rattle.std.specs.Prelude.{ℕ, zero, suc, ◌+◌, ◌==◌, ◌&&◌, nat_lt, List, [], ◌∷◌, take, drop, length, Option, Some, None, if◌then◌else◌}
 use Rattle.std.specs.List.{prefix_len}
+use Rattle.load_requests.specs.Bytes.{is_blank, begins_word, in_word, is_digit, in_quotes}
 use Rattle.load_requests.specs.declared.token.Kind.{Kind}
 use Rattle.load_requests.specs.declared.token.Kind.TheVariants as kind
-
-abbrev pub is_blank : ℕ → Bool
-is_blank b = (b == 32) || (b == 9) || (b == 10) || (b == 13)
-
--- an ASCII letter or `_`
-abbrev pub begins_word : ℕ → Bool
-begins_word b = (nat_le 65 b && nat_le b 90) || (nat_le 97 b && nat_le b 122) || (b == 95)
-
-abbrev pub is_digit : ℕ → Bool
-is_digit b = nat_le 48 b && nat_le b 57
-
-abbrev pub in_word : ℕ → Bool
-in_word b = begins_word b || is_digit b
-
-abbrev pub in_quotes : ℕ → Bool
-in_quotes b = not (b == 96)
 
 -- a token: its kind and its bytes, those of a name in backquotes without them
 abbrev pub Token : Type 0

@@ -1,6 +1,7 @@
 //! Requests of the service: what the head and the body of one ask for.
 #![tactic(auto)]
 
+mod bytes;
 mod load_fields;
 mod names;
 mod read;

@@ -101,7 +101,11 @@ fn value_fault(alloc: Global, name: &[u8], value: &[u8]) -> Result<Option<Text>,
         return unless(alloc, taken, b"Unsupported name=format");
     }
     if name.eq_ignore_ascii_case(b"line_delimiter") {
-        return unless(alloc, value == b"\\n", b"Unsupported name=line_delimiter");
+        return unless(
+            alloc,
+            value == b"\\n".as_slice(),
+            b"Unsupported name=line_delimiter",
+        );
     }
     match named_in(&REFUSED_NAMES, name) {
         None => Ok(None),

@@ -1,8 +1,11 @@
 // Names, and the words that are none.
 ghost use Rattle.std.specs.Prelude.{◌≡◌};
+ghost use Rattle.std.specs.List.{list_any};
+ghost use Rattle.std.specs.Str.{str_eq_ignore_ascii_case};
 ghost use Rattle.load_requests.specs.Statements.{is_reserved, is_plain, is_name, is_word, is_one, writes_one};
 
-use crate::token::{Kind, begins_word};
+use crate::bytes::{Class, begins_word, run_length};
+use crate::token::Kind;
 
 const RESERVED: [&[u8]; 33] = [
     b"ADD",
@@ -40,10 +43,22 @@ const RESERVED: [&[u8]; 33] = [
     b"WHERE",
 ];
 
+fn is_any(words: &[&[u8]], word: &[u8]) -> bool
+    ensures { result ≡ list_any (λ w. str_eq_ignore_ascii_case word.now w.now) words.now }
+{
+    words.iter().any(|w| is_same(word, w))
+}
+
+fn is_same(a: &[u8], b: &[u8]) -> bool
+    ensures { result ≡ str_eq_ignore_ascii_case a.now b.now }
+{
+    a.eq_ignore_ascii_case(b)
+}
+
 fn is_reserved(word: &[u8]) -> bool
     ensures { result ≡ is_reserved word.now }
 {
-    RESERVED.iter().any(|r| word.eq_ignore_ascii_case(r))
+    is_any(&RESERVED, word)
 }
 
 fn is_word(bytes: &[u8]) -> bool
@@ -80,12 +95,7 @@ pub fn is_name(kind: Kind, bytes: &[u8]) -> bool
 fn writes_one(digits: &[u8]) -> bool
     ensures { result ≡ writes_one digits.now }
 {
-    for (i, d) in digits.iter().enumerate() {
-        if *d != b'0' {
-            return &digits[i..] == b"1";
-        }
-    }
-    false
+    &digits[run_length(Class::Zero, digits)..] == b"1".as_slice()
 }
 
 /// Whether a token is the number 1.

@@ -1,6 +1,6 @@
 // What a request asks for, by its head and its body.
 ghost use Rattle.std.specs.Prelude.{◌≡◌, IfOk};
-ghost use Rattle.load_requests.specs.Requests.{request_of, load_request, statement_request};
+ghost use Rattle.load_requests.specs.Requests.{request_of, loaded, load_request, statement_request};
 
 use crate::load_fields::fields_fault;
 use crate::reading::read_statement;
@@ -15,7 +15,9 @@ use reply_json::{BodyError, read_stmt_body};
 use std::alloc::Global;
 
 // A load with these fields, of which none is at fault.
-fn good_load(alloc: Global, db: &[u8], table: &[u8], fields: &Fields) -> Result<Request, NoMemory> {
+fn good_load(alloc: Global, db: &[u8], table: &[u8], fields: &Fields) -> Result<Request, NoMemory>
+    ensures { IfOk result (λ r. r ≡ loaded (db.now, table.now) fields.now None) }
+{
     let label = match first_value(fields, b"label") {
         None => None,
         Some(value) => Some(Name::new(alloc, value)?),
@@ -33,6 +35,7 @@ fn good_load(alloc: Global, db: &[u8], table: &[u8], fields: &Fields) -> Result<
 }
 
 // A load with these fields.
+#[tactic(auto, unfolding(crate::specs::Requests::load_request))]
 fn load(alloc: Global, db: &[u8], table: &[u8], fields: &Fields) -> Result<Request, NoMemory>
     ensures { IfOk result (λ r. r ≡ load_request (db.now, table.now) fields.now) }
 {
@@ -46,6 +49,7 @@ fn load(alloc: Global, db: &[u8], table: &[u8], fields: &Fields) -> Result<Reque
 }
 
 // A body with a statement for a database.
+#[tactic(auto, unfolding(crate::specs::Requests::statement_request))]
 fn statement(alloc: Global, db: &[u8], body: &[u8]) -> Result<Request, NoMemory>
     ensures { IfOk result (λ r. r ≡ statement_request db.now body.now) }
 {

@@ -1,7 +1,7 @@
 // Reading a statement from left to right.
 ghost use Rattle.std.specs.Prelude.{◌≡◌, IfOk};
 ghost use Rattle.load_requests.specs.Tokens.{tokens_of};
-ghost use Rattle.load_requests.specs.Statements.{Gives, plain_at, name_at, type_at, one_at, comma_at, names_at, columns_at, is_end, create_db_at, key_clause_at, hash_at, table_def_at, create_table_at, select_at, ended, statement_of};
+ghost use Rattle.load_requests.specs.Statements.{Gives, plain_at, name_at, type_at, one_at, comma_at, names_at, columns_at, column_at, is_end, create_db_at, key_clause_at, hash_at, table_def_at, create_table_at, select_at, ended, statement_of};
 
 use crate::names::{is_name, is_one, is_plain};
 use crate::statement::Statement;

@@ -1,21 +1,20 @@
 // The targets that are served.
-ghost use Rattle.std.specs.Prelude.{◌≡◌, option_map, option_copied};
-ghost use Rattle.load_requests.specs.Targets.{load_target, query_target, path_of, parts_of};
+ghost use Rattle.std.specs.Prelude.{◌≡◌, ◌∷◌, option_map, option_copied};
+ghost use Rattle.load_requests.specs.Targets.{load_target, query_target, path_of, parts_of, parts_behind, five_of};
+
+use crate::bytes::{Class, run_length};
 
 /// The database and the table that a load goes to.
+#[tactic(auto, unfolding(crate::specs::Targets::load_target))]
 pub fn load_target<'a>(method: &[u8], target: &'a [u8]) -> Option<(&'a [u8], &'a [u8])>
     ensures { option_map (λ x. (x.0.now, x.1.now)) result ≡ load_target method.now target.now }
 {
-    if method != b"PUT" {
+    if method != b"PUT".as_slice() {
         return None;
     }
-    let [root, api, db, table, last] = five_parts(path(target))?;
-    if root.is_empty()
-        && api == b"api"
-        && last == b"_stream_load"
-        && !db.is_empty()
-        && !table.is_empty()
-    {
+    let (root, api, db, table, last) = five_parts(target)?;
+    let served = root.is_empty() && api == b"api".as_slice() && last == b"_stream_load".as_slice();
+    if served && !db.is_empty() && !table.is_empty() {
         Some((db, table))
     } else {
         None
@@ -23,19 +22,19 @@ pub fn load_target<'a>(method: &[u8], target: &'a [u8]) -> Option<(&'a [u8], &'a
 }
 
 /// The database that a statement is for.
+#[tactic(auto, unfolding(crate::specs::Targets::query_target))]
 pub fn query_target<'a>(method: &[u8], target: &'a [u8]) -> Option<&'a [u8]>
     ensures { option_copied result ≡ query_target method.now target.now }
 {
-    if method != b"POST" {
+    if method != b"POST".as_slice() {
         return None;
     }
-    let [root, api, query, internal, db] = five_parts(path(target))?;
-    if root.is_empty()
-        && api == b"api"
-        && query == b"query"
-        && internal == b"internal"
-        && !db.is_empty()
-    {
+    let (root, api, query, internal, db) = five_parts(target)?;
+    let served = root.is_empty()
+        && api == b"api".as_slice()
+        && query == b"query".as_slice()
+        && internal == b"internal".as_slice();
+    if served && !db.is_empty() {
         Some(db)
     } else {
         None
@@ -46,28 +45,33 @@ pub fn query_target<'a>(method: &[u8], target: &'a [u8]) -> Option<&'a [u8]>
 fn path(target: &[u8]) -> &[u8]
     ensures { result.now ≡ path_of target.now }
 {
-    for (i, b) in target.iter().enumerate() {
-        if *b == b'?' {
-            return &target[..i];
-        }
-    }
-    target
+    &target[..run_length(Class::Path, target)]
 }
 
-// The parts between the slashes, where there are five.
-fn five_parts(path: &[u8]) -> Option<[&[u8]; 5]>
-    ensures { option_map (λ parts. map (λ part. part.now) parts) result ≡ only_five (parts_of path.now) }
+// The part before the first slash, and what stands behind that slash, if there is one.
+fn cut(path: &[u8]) -> (&[u8], Option<&[u8]>)
+    ensures { parts_of path.now ≡ result.0.now ∷ parts_behind (option_copied result.1) }
 {
-    let mut parts = path.split(|b| *b == b'/');
-    let found = [
-        parts.next()?,
-        parts.next()?,
-        parts.next()?,
-        parts.next()?,
-        parts.next()?,
-    ];
-    match parts.next() {
-        None => Some(found),
+    let length = run_length(Class::Part, path);
+    if length < path.len() {
+        (&path[..length], Some(&path[length + 1..]))
+    } else {
+        (path, None)
+    }
+}
+
+// The five parts of a target's path, if it has five.
+#[tactic(auto, unfolding(crate::specs::Targets::five_of))]
+fn five_parts(target: &[u8]) -> Option<(&[u8], &[u8], &[u8], &[u8], &[u8])>
+    ensures { option_map (λ x. (x.0.now, x.1.now, x.2.now, x.3.now, x.4.now)) result ≡ five_of target.now }
+{
+    let (first, rest) = cut(path(target));
+    let (second, rest) = cut(rest?);
+    let (third, rest) = cut(rest?);
+    let (fourth, rest) = cut(rest?);
+    let (fifth, rest) = cut(rest?);
+    match rest {
+        None => Some((first, second, third, fourth, fifth)),
         Some(_) => None,
     }
 }

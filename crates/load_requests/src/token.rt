@@ -1,7 +1,8 @@
 // The tokens of a statement.
-ghost use Rattle.std.specs.Prelude.{◌≡◌, ◌∷◌, [], ◌≤◌, MatchOption, length, take, drop, option_map};
-ghost use Rattle.std.specs.List.{prefix_len};
-ghost use Rattle.load_requests.specs.Tokens.{is_blank, begins_word, is_digit, in_word, in_quotes, lexeme, front, tokens_of};
+ghost use Rattle.std.specs.Prelude.{◌≡◌, ◌∷◌, [], ◌<◌, ◌+◌, MatchOption, length, take, drop, option_map};
+ghost use Rattle.load_requests.specs.Tokens.{front, tokens_of};
+
+use crate::bytes::{Class, begins_word, is_digit, run_length};
 
 /// What a token is.
 #[derive(Clone, Copy, Debug, PartialEq, Eq)]
@@ -14,68 +15,12 @@ pub enum Kind {
     Number,
 }
 
-fn is_blank(b: u8) -> bool
-    ensures { result ≡ is_blank b }
-{
-    b == b' ' || b == b'\t' || b == b'\n' || b == b'\r'
-}
-
-/// Whether a word begins with this byte.
-pub fn begins_word(b: u8) -> bool
-    ensures { result ≡ begins_word b }
-{
-    (b'A' <= b && b <= b'Z') || (b'a' <= b && b <= b'z') || b == b'_'
-}
-
-fn is_digit(b: u8) -> bool
-    ensures { result ≡ is_digit b }
-{
-    b'0' <= b && b <= b'9'
-}
-
-// How many bytes of a word stand in front.
-fn word_length(text: &[u8]) -> usize
-    ensures within { result ≤ length text.now }
-    ensures count { result ≡ prefix_len in_word text.now }
-{
-    for (i, b) in text.iter().enumerate() {
-        if !begins_word(*b) && !is_digit(*b) {
-            return i;
-        }
-    }
-    text.len()
-}
-
-// How many digits stand in front.
-fn number_length(text: &[u8]) -> usize
-    ensures within { result ≤ length text.now }
-    ensures count { result ≡ prefix_len is_digit text.now }
-{
-    for (i, b) in text.iter().enumerate() {
-        if !is_digit(*b) {
-            return i;
-        }
-    }
-    text.len()
-}
-
-// How many bytes stand before the first backquote.
-fn quoted_length(text: &[u8]) -> usize
-    ensures within { result ≤ length text.now }
-    ensures count { result ≡ prefix_len in_quotes text.now }
-{
-    for (i, b) in text.iter().enumerate() {
-        if *b == b'`' {
-            return i;
-        }
-    }
-    text.len()
-}
-
-// A token of one byte and of so many behind it, and what stands behind the token.
+// A token of one byte and so many behind it, and what stands behind the token.
 fn run(kind: Kind, text: &[u8], more: usize) -> (Kind, &[u8], &[u8])
     requires { more < length text.now }
-    ensures { (result.0, result.1.now, result.2.now) ≡ (kind, take (more + 1) text.now, drop (more + 1) text.now) }
+    ensures kind { result.0 ≡ kind }
+    ensures bytes { result.1.now ≡ take (more + 1) text.now }
+    ensures rest { result.2.now ≡ drop (more + 1) text.now }
 {
     let (bytes, rest) = text.split_at(more + 1);
     (kind, bytes, rest)
@@ -90,13 +35,13 @@ fn lexeme(text: &[u8]) -> Option<(Kind, &[u8], &[u8])>
         return None;
     };
     if begins_word(*first) {
-        return Some(run(Kind::Plain, text, word_length(rest)));
+        return Some(run(Kind::Plain, text, run_length(Class::Word, rest)));
     }
     if is_digit(*first) {
-        return Some(run(Kind::Number, text, number_length(rest)));
+        return Some(run(Kind::Number, text, run_length(Class::Digit, rest)));
     }
     if *first == b'`' {
-        let length = quoted_length(rest);
+        let length = run_length(Class::Quoted, rest);
         if 0 < length && length < rest.len() {
             return Some((Kind::Quoted, &rest[..length], &rest[length + 1..]));
         }
@@ -108,10 +53,5 @@ fn lexeme(text: &[u8]) -> Option<(Kind, &[u8], &[u8])>
 pub fn first_token(text: &[u8]) -> Option<(Kind, &[u8], &[u8])>
     ensures { MatchOption result (tokens_of text.now ≡ []) (λ x. tokens_of text.now ≡ (x.0, x.1.now) ∷ tokens_of x.2.now) }
 {
-    for (i, b) in text.iter().enumerate() {
-        if !is_blank(*b) {
-            return lexeme(&text[i..]);
-        }
-    }
-    None
+    lexeme(&text[run_length(Class::Blank, text)..])
 }
