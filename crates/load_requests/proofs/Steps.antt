@@ -10,10 +10,10 @@ use Rattle.load_requests.specs.Loads.{first_value, first_of}
 
 -- a run ends before the first that does not pass
 pub stops : {X : Type 0} (p : X → Bool) (xs : List X) (i : ℕ) (d : X) → i < length xs → p (get_or xs i d) ≡ false → prefix_len p xs ≡ i + prefix_len p (drop i xs) → i ≡ prefix_len p xs
-stops p xs i d h no so = let e = prefix_len-drop_no p xs i d h no in omega (arith, so, e)
+stops p xs i d h fails so = let e = prefix_len-drop_no p xs i d h fails in omega (arith, so, e)
 
 pub goes_on : {X : Type 0} (p : X → Bool) (xs : List X) (i : ℕ) (d : X) → i < length xs → p (get_or xs i d) ≡ true → prefix_len p xs ≡ i + prefix_len p (drop i xs) → prefix_len p xs ≡ i + 1 + prefix_len p (drop (i + 1) xs)
-goes_on p xs i d h yes so = let e = prefix_len-drop_yes p xs i d h yes in omega (arith, so, e)
+goes_on p xs i d h passes so = let e = prefix_len-drop_yes p xs i d h passes in omega (arith, so, e)
 
 pub ends : {X : Type 0} (p : X → Bool) (xs : List X) (i : ℕ) → length xs ≤ i → i ≤ length xs → prefix_len p xs ≡ i + prefix_len p (drop i xs) → length xs ≡ prefix_len p xs
 ends p xs i h k so = let e = prefix_len-drop_all p xs i h in omega (arith, so, e)

@@ -35,6 +35,17 @@ abbrev pub named_in : List (List ℕ) → List ℕ → Option (List ℕ)
 named_in [] name = None
 named_in (n ∷ ns) name = if str_eq_ignore_ascii_case name n then Some n else named_in ns name
 
+-- the name of a field that may stand once, or that no load may have
+unfoldable pub single_name : List ℕ → Option (List ℕ)
+single_name name = named_in single_names name
+
+unfoldable pub refused_name : List ℕ → Option (List ℕ)
+refused_name name = named_in refused_names name
+
+-- whether a value stands for a separator
+unfoldable pub separates : List ℕ → Bool
+separates value = is_some (separator_of value)
+
 abbrev pub text_of : (List ℕ → List ℕ) → Option (List ℕ) → Option (List ℕ)
 text_of text None = None
 text_of text (Some name) = Some (text name)
@@ -43,10 +54,10 @@ text_of text (Some name) = Some (text name)
 unfoldable pub value_fault : List ℕ → List ℕ → Option (List ℕ)
 value_fault name value =
     if str_eq_ignore_ascii_case name (codes "label") then unless (is_utf8 value) (bad_field (codes "label"))
-    else if str_eq_ignore_ascii_case name (codes "column_separator") then unless (is_some (separator_of value)) (codes "BadSeparator")
+    else if str_eq_ignore_ascii_case name (codes "column_separator") then unless (separates value) (codes "BadSeparator")
     else if str_eq_ignore_ascii_case name (codes "format") then unless (str_eq_ignore_ascii_case value (codes "csv")) (unsupported (codes "format"))
     else if str_eq_ignore_ascii_case name (codes "line_delimiter") then unless (bytes_eq value (codes "\\n")) (unsupported (codes "line_delimiter"))
-    else text_of unsupported (named_in refused_names name)
+    else text_of unsupported (refused_name name)
 
 -- why a field is at fault behind these others: it may stand once and stood before, or its value is not taken
 abbrev pub or_else : Option (List ℕ) → Option (List ℕ) → Option (List ℕ)
@@ -57,7 +68,7 @@ abbrev pub repeated : Bool → Option (List ℕ) → Option (List ℕ)
 repeated stood name = if stood then text_of bad_field name else None
 
 unfoldable pub field_fault : List (List ℕ × List ℕ) → List ℕ × List ℕ → Option (List ℕ)
-field_fault before field = or_else (repeated (list_any (is_named field.0) before) (named_in single_names field.0)) (value_fault field.0 field.1)
+field_fault before field = or_else (repeated (list_any (is_named field.0) before) (single_name field.0)) (value_fault field.0 field.1)
 
 -- the first field at fault among these, behind others that are not
 unfoldable pub fault_behind : List (List ℕ × List ℕ) → List (List ℕ × List ℕ) → Option (List ℕ)

@@ -1,5 +1,5 @@
 -- What a request asks for, by its head and its body.
-use Rattle.std.specs.Prelude.{◌≡◌, ℕ, Bool, true, false, List, [], ◌∷◌, codes, Option, Some, None, refl}
+use Rattle.std.specs.Prelude.{◌≡◌, ℕ, Bool, true, false, List, codes, Option, Some, None, refl}
 use Rattle.std.proofs.lemmas.Bool.{leb-true}
 use Rattle.http_wire.specs.declared.head.Head.{Head}
 use Rattle.reply_json.specs.Statements.{stmt_of}

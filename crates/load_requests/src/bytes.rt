@@ -1,6 +1,7 @@
 // Runs of bytes of a class.
 ghost use Rattle.std.specs.Prelude.{◌≡◌, ◌≤◌, length};
 ghost use Rattle.std.specs.List.{prefix_len};
+ghost use Rattle.std.specs.Str.{is_utf8, str_eq_ignore_ascii_case};
 ghost use Rattle.load_requests.specs.Bytes.{is_blank, begins_word, is_digit, in_word, is_of};
 
 /// A class of bytes.
@@ -72,4 +73,22 @@ pub fn run_length(class: Class, text: &[u8]) -> usize
         }
     }
     text.len()
+}
+
+/// Whether two texts are the same but for the case of ASCII letters.
+pub fn is_same(text: &[u8], wanted: &[u8]) -> bool
+    ensures { result ≡ str_eq_ignore_ascii_case text.now wanted.now }
+{
+    text.eq_ignore_ascii_case(wanted)
+}
+
+/// Whether bytes are UTF-8.
+#[tactic(auto, using(crate::proofs::Utf8::is_text, crate::proofs::Utf8::is_no_text))]
+pub fn is_utf8(bytes: &[u8]) -> bool
+    ensures { result ≡ is_utf8 bytes.now }
+{
+    match std::str::from_utf8(bytes) {
+        Ok(_) => true,
+        Err(_) => false,
+    }
 }

@@ -1,10 +1,10 @@
 // The fields of a load, and which of them is at fault.
-ghost use Rattle.std.specs.Prelude.{◌≡◌, ◌≤◌, ◌<◌, ◌++◌, ℕ, List, IfOk, IsTrue, map, take, length, slice_get, is_some, option_copied};
+ghost use Rattle.std.specs.Prelude.{◌≡◌, ◌≤◌, ◌<◌, ◌++◌, ℕ, List, IfOk, IsTrue, map, take, length, slice_get, option_copied};
 ghost use Rattle.std.specs.List.{list_any};
 ghost use Rattle.http_wire.specs.Fields.{is_named};
-ghost use Rattle.csv_load.specs.Options.{separator_of};
-ghost use Rattle.load_requests.specs.LoadFields.{fields_fault, field_fault, value_fault, named_in, unless};
+ghost use Rattle.load_requests.specs.LoadFields.{fields_fault, field_fault, value_fault, repeated, single_name, refused_name, separates, named_in, unless};
 
+use crate::bytes::{is_same, is_utf8};
 use csv_load::Options;
 use dl_values::{NoMemory, Text};
 use http_wire::Fields;
@@ -50,11 +50,27 @@ fn named_in<'a>(names: &[&'a [u8]], name: &[u8]) -> Option<&'a [u8]>
     ensures { option_copied result ≡ named_in (map (λ n. n.now) names.now) name.now }
 {
     for wanted in names {
-        if name.eq_ignore_ascii_case(wanted) {
+        if is_same(name, wanted) {
             return Some(wanted);
         }
     }
     None
+}
+
+// The name of a field that may stand once.
+#[tactic(auto, unfolding(crate::specs::LoadFields::single_name))]
+fn single_name(name: &[u8]) -> Option<&'static [u8]>
+    ensures { option_copied result ≡ single_name name.now }
+{
+    named_in(&SINGLE_NAMES, name)
+}
+
+// The name of a field that no load may have.
+#[tactic(auto, unfolding(crate::specs::LoadFields::refused_name))]
+fn refused_name(name: &[u8]) -> Option<&'static [u8]>
+    ensures { option_copied result ≡ refused_name name.now }
+{
+    named_in(&REFUSED_NAMES, name)
 }
 
 // A text and a name.
@@ -78,8 +94,9 @@ fn unless(alloc: Global, taken: bool, text: &[u8]) -> Result<Option<Text>, NoMem
 }
 
 // Whether a value stands for a separator.
+#[tactic(auto, unfolding(crate::specs::LoadFields::separates))]
 fn separates(value: &[u8]) -> bool
-    ensures { result ≡ is_some (separator_of value.now) }
+    ensures { result ≡ separates value.now }
 {
     Options::build(Some(value), None, false).is_ok()
 }
@@ -89,25 +106,23 @@ fn separates(value: &[u8]) -> bool
 fn value_fault(alloc: Global, name: &[u8], value: &[u8]) -> Result<Option<Text>, NoMemory>
     ensures { IfOk result (λ fault. fault ≡ value_fault name.now value.now) }
 {
-    if name.eq_ignore_ascii_case(b"label") {
-        let taken = std::str::from_utf8(value).is_ok();
-        return unless(alloc, taken, b"BadHeader name=label");
+    if is_same(name, b"label") {
+        return unless(alloc, is_utf8(value), b"BadHeader name=label");
     }
-    if name.eq_ignore_ascii_case(b"column_separator") {
+    if is_same(name, b"column_separator") {
         return unless(alloc, separates(value), b"BadSeparator");
     }
-    if name.eq_ignore_ascii_case(b"format") {
-        let taken = value.eq_ignore_ascii_case(b"csv");
-        return unless(alloc, taken, b"Unsupported name=format");
+    if is_same(name, b"format") {
+        return unless(alloc, is_same(value, b"csv"), b"Unsupported name=format");
     }
-    if name.eq_ignore_ascii_case(b"line_delimiter") {
+    if is_same(name, b"line_delimiter") {
         return unless(
             alloc,
             value == b"\\n".as_slice(),
             b"Unsupported name=line_delimiter",
         );
     }
-    match named_in(&REFUSED_NAMES, name) {
+    match refused_name(name) {
         None => Ok(None),
         Some(refused) => Ok(Some(text_of(alloc, b"Unsupported name=", refused)?)),
     }
@@ -119,26 +134,49 @@ fn stood_before(fields: &Fields, place: usize, name: &[u8]) -> bool
     ensures { result ≡ list_any (is_named name.now) (take place fields.now) }
 {
     for earlier in 0..place {
-        if fields.get(earlier).0.eq_ignore_ascii_case(name) {
+        let (found, _) = fields.get(earlier);
+        if is_same(found, name) {
             return true;
         }
     }
     false
 }
 
-// Why the field at a place is at fault.
-fn field_fault(alloc: Global, fields: &Fields, place: usize) -> Result<Option<Text>, NoMemory>
-    requires { place < length fields.now }
-    ensures { IfOk result (λ fault. (field : List ℕ × List ℕ) → slice_get fields.now place ≡ Some field → fault ≡ field_fault (take place fields.now) field) }
+// Why a field that stands at a place is one too many.
+fn repeat_fault(
+    alloc: Global,
+    fields: &Fields,
+    place: usize,
+    name: &[u8],
+) -> Result<Option<Text>, NoMemory>
+    requires { place ≤ length fields.now }
+    ensures { IfOk result (λ fault. fault ≡ repeated (list_any (is_named name.now) (take place fields.now)) (single_name name.now)) }
 {
-    let (name, value) = fields.get(place);
-    if stood_before(fields, place, name) {
-        match named_in(&SINGLE_NAMES, name) {
-            None => {}
-            Some(single) => return Ok(Some(text_of(alloc, b"BadHeader name=", single)?)),
-        }
+    if !stood_before(fields, place, name) {
+        return Ok(None);
     }
-    value_fault(alloc, name, value)
+    match single_name(name) {
+        None => Ok(None),
+        Some(single) => Ok(Some(text_of(alloc, b"BadHeader name=", single)?)),
+    }
+}
+
+// Why the field that stands at a place is at fault.
+#[tactic(auto, unfolding(crate::specs::LoadFields::field_fault))]
+fn field_fault(
+    alloc: Global,
+    fields: &Fields,
+    place: usize,
+    name: &[u8],
+    value: &[u8],
+) -> Result<Option<Text>, NoMemory>
+    requires { place ≤ length fields.now }
+    ensures { IfOk result (λ fault. fault ≡ field_fault (take place fields.now) (name.now, value.now)) }
+{
+    match repeat_fault(alloc, fields, place, name)? {
+        Some(text) => Ok(Some(text)),
+        None => value_fault(alloc, name, value),
+    }
 }
 
 /// Why the fields of a head make no load: the text of the first that is at fault.
@@ -146,7 +184,8 @@ pub fn fields_fault(alloc: Global, fields: &Fields) -> Result<Option<Text>, NoMe
     ensures { IfOk result (λ fault. fault ≡ fields_fault fields.now) }
 {
     for place in 0..fields.len() {
-        match field_fault(alloc, fields, place)? {
+        let (name, value) = fields.get(place);
+        match field_fault(alloc, fields, place, name, value)? {
             None => {}
             Some(text) => return Ok(Some(text)),
         }

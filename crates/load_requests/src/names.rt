@@ -4,7 +4,7 @@ ghost use Rattle.std.specs.List.{list_any};
 ghost use Rattle.std.specs.Str.{str_eq_ignore_ascii_case};
 ghost use Rattle.load_requests.specs.Statements.{is_reserved, is_plain, is_name, is_word, is_one, writes_one};
 
-use crate::bytes::{Class, begins_word, run_length};
+use crate::bytes::{Class, begins_word, is_same, run_length};
 use crate::token::Kind;
 
 const RESERVED: [&[u8]; 33] = [
@@ -49,12 +49,6 @@ fn is_any(words: &[&[u8]], word: &[u8]) -> bool
     words.iter().any(|w| is_same(word, w))
 }
 
-fn is_same(a: &[u8], b: &[u8]) -> bool
-    ensures { result ≡ str_eq_ignore_ascii_case a.now b.now }
-{
-    a.eq_ignore_ascii_case(b)
-}
-
 fn is_reserved(word: &[u8]) -> bool
     ensures { result ≡ is_reserved word.now }
 {
@@ -75,7 +69,7 @@ pub fn is_plain(kind: Kind, bytes: &[u8], word: &[u8]) -> bool
     ensures { result ≡ is_plain word.now (kind, bytes.now) }
 {
     match kind {
-        Kind::Plain => bytes.eq_ignore_ascii_case(word),
+        Kind::Plain => is_same(bytes, word),
         Kind::Quoted | Kind::Number => false,
     }
 }

@@ -15,6 +15,7 @@ use reply_json::{BodyError, read_stmt_body};
 use std::alloc::Global;
 
 // A load with these fields, of which none is at fault.
+#[tactic(auto, using(crate::proofs::Separators::options_are))]
 fn good_load(alloc: Global, db: &[u8], table: &[u8], fields: &Fields) -> Result<Request, NoMemory>
     ensures { IfOk result (λ r. r ≡ loaded (db.now, table.now) fields.now None) }
 {

@@ -52,16 +52,15 @@ fn path(target: &[u8]) -> &[u8]
 fn cut(path: &[u8]) -> (&[u8], Option<&[u8]>)
     ensures { parts_of path.now ≡ result.0.now ∷ parts_behind (option_copied result.1) }
 {
-    let length = run_length(Class::Part, path);
-    if length < path.len() {
-        (&path[..length], Some(&path[length + 1..]))
-    } else {
-        (path, None)
+    let (part, rest) = path.split_at(run_length(Class::Part, path));
+    match rest {
+        [] => (part, None),
+        [_, behind @ ..] => (part, Some(behind)),
     }
 }
 
 // The five parts of a target's path, if it has five.
-#[tactic(auto, unfolding(crate::specs::Targets::five_of))]
+#[tactic(auto, using(crate::proofs::Parts::too_many), unfolding(crate::specs::Targets::five_of))]
 fn five_parts(target: &[u8]) -> Option<(&[u8], &[u8], &[u8], &[u8], &[u8])>
     ensures { option_map (λ x. (x.0.now, x.1.now, x.2.now, x.3.now, x.4.now)) result ≡ five_of target.now }
 {

@@ -53,5 +53,6 @@ fn lexeme(text: &[u8]) -> Option<(Kind, &[u8], &[u8])>
 pub fn first_token(text: &[u8]) -> Option<(Kind, &[u8], &[u8])>
     ensures { MatchOption result (tokens_of text.now ≡ []) (λ x. tokens_of text.now ≡ (x.0, x.1.now) ∷ tokens_of x.2.now) }
 {
-    lexeme(&text[run_length(Class::Blank, text)..])
+    let (_, rest) = text.split_at(run_length(Class::Blank, text));
+    lexeme(rest)
 }

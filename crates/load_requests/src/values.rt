@@ -3,6 +3,7 @@ ghost use Rattle.std.specs.Prelude.{◌≡◌, IfOk, option_copied, length};
 ghost use Rattle.http_wire.specs.Fields.{values_of};
 ghost use Rattle.load_requests.specs.Loads.{first_value, only_label};
 
+use crate::bytes::{is_same, is_utf8};
 use dl_values::{NoMemory, Text};
 use http_wire::Fields;
 use std::alloc::Global;
@@ -13,7 +14,7 @@ pub fn first_value<'a>(fields: &'a Fields, name: &[u8]) -> Option<&'a [u8]>
 {
     for place in 0..fields.len() {
         let (found, value) = fields.get(place);
-        if found.eq_ignore_ascii_case(name) {
+        if is_same(found, name) {
             return Some(value);
         }
     }
@@ -26,7 +27,8 @@ fn count(fields: &Fields, name: &[u8]) -> usize
 {
     let mut count = 0;
     for place in 0..fields.len() {
-        if fields.get(place).0.eq_ignore_ascii_case(name) {
+        let (found, _) = fields.get(place);
+        if is_same(found, name) {
             count += 1;
         }
     }
@@ -34,6 +36,7 @@ fn count(fields: &Fields, name: &[u8]) -> usize
 }
 
 /// The label, where there is exactly one field of it and its value is UTF-8.
+#[tactic(auto, unfolding(crate::specs::Loads::only_label))]
 pub fn only_label(alloc: Global, fields: &Fields) -> Result<Option<Text>, NoMemory>
     ensures { IfOk result (λ label. label ≡ only_label fields.now) }
 {
@@ -41,7 +44,13 @@ pub fn only_label(alloc: Global, fields: &Fields) -> Result<Option<Text>, NoMemo
         return Ok(None);
     }
     match first_value(fields, b"label") {
-        Some(value) if std::str::from_utf8(value).is_ok() => Ok(Some(Text::new(alloc, value)?)),
-        _ => Ok(None),
+        None => Ok(None),
+        Some(value) => {
+            if is_utf8(value) {
+                Ok(Some(Text::new(alloc, value)?))
+            } else {
+                Ok(None)
+            }
+        }
     }
 }
