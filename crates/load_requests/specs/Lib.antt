@@ -1,0 +1,7 @@
+pub mod Bytes
+pub mod Targets
+pub mod LoadFields
+pub mod Loads
+pub mod Tokens
+pub mod Statements
+pub mod Requests

@@ -1,0 +1,17 @@
+//! Requests of the service: what the head and the body of one ask for.
+#![tactic(auto)]
+
+mod bytes;
+mod load_fields;
+mod names;
+mod read;
+mod reading;
+mod request;
+mod statement;
+mod stop;
+mod target;
+mod token;
+mod values;
+
+pub use read::read_request;
+pub use request::Request;

@@ -1,0 +1,39 @@
+// What a request asks for.
+use csv_load::Options;
+use dl_values::{Name, Text};
+use sql_text::TableDef;
+
+/// What a request asks for.
+#[derive(Debug, Drop)]
+pub enum Request {
+    /// Its target is none that is served.
+    Unknown,
+    /// A load.
+    Load {
+        db: Name,
+        table: Name,
+        label: Option<Name>,
+        options: Options,
+    },
+    /// A load with a field at fault: its label, where the head has exactly one and in UTF-8, and the text that says why.
+    BadLoad {
+        label: Option<Text>,
+        message: Text,
+    },
+    CreateDb {
+        name: Name,
+    },
+    CreateTable {
+        db: Name,
+        table: Name,
+        def: TableDef,
+    },
+    Select {
+        db: Name,
+        table: Name,
+    },
+    /// A statement that is not served, and the text that says why.
+    BadStatement {
+        message: Text,
+    },
+}
