@@ -15,3 +15,6 @@ mod values;
 
 pub use read::read_request;
 pub use request::Request;
+
+#[cfg(test)]
+mod tests;

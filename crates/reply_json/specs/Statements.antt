@@ -1,6 +1,7 @@
 -- The JSON of refusals, and the statement that a body holds.
 use Rattle.std.specs.Prelude.{ℕ, List, [], ◌∷◌, codes, Option, None, option_and_then, if◌then◌else◌}
 use Rattle.std.specs.Str.{is_utf8}
+use Rattle.std.specs.Str.Lossy.{utf8_lossy}
 use Rattle.serde_json.specs.Data.{Data, string}
 use Rattle.serde_json.specs.Find.{get, as_str}
 use Rattle.serde_json.specs.Read.{read}
@@ -13,6 +14,10 @@ refusal_json text = object_of (
     ∷ (codes "data", string text)
     ∷ (codes "msg", string (codes "Error"))
     ∷ [])
+
+-- the same for a text that may not be UTF-8: U+FFFD stands for each part that is not
+abbrev pub refused_json : List ℕ → Data
+refused_json message = refusal_json (utf8_lossy message)
 
 -- a request that was not served, with the fault's name (this project's own)
 abbrev pub error_json : List ℕ → Data

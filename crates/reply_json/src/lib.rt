@@ -14,7 +14,7 @@ mod text;
 pub use body_error::BodyError;
 pub use load::render_load;
 pub use load_report::LoadReport;
-pub use refusal::{render_error, render_refusal};
+pub use refusal::{render_error, render_refusal, render_refused};
 pub use result::{render_done, render_result};
 pub use stmt_body::read_stmt_body;
 

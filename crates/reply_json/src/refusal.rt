@@ -2,9 +2,10 @@
 ghost use Rattle.std.specs.Prelude.{◌≡◌, IfOk};
 ghost use Rattle.serde_json.specs.View.{view};
 ghost use Rattle.serde_json.specs.Written.{compact_text};
-ghost use Rattle.reply_json.specs.Statements.{refusal_json, error_json};
+ghost use Rattle.reply_json.specs.Statements.{refusal_json, refused_json, error_json};
 
-use dl_values::NoMemory;
+use crate::text::lossy;
+use dl_values::{NoMemory, Text};
 use serde_json::{Value, json};
 use std::alloc::Global;
 
@@ -20,6 +21,15 @@ pub fn render_refusal(alloc: Global, text: &str) -> Result<Vec<u8>, NoMemory>
 {
     let value = refusal_value(alloc, text)?;
     Ok(value.to_vec(alloc)?)
+}
+
+/// The body that answers a refused statement, with status 200, as `render_refusal` gives it for a text. Parts of it that are
+/// not UTF-8 are U+FFFD there.
+pub fn render_refused(alloc: Global, message: &Text) -> Result<Vec<u8>, NoMemory>
+    ensures { IfOk result (λ b. b.items ≡ compact_text (refused_json message.now)) }
+{
+    let text = lossy(alloc, message)?;
+    render_refusal(alloc, text.as_str())
 }
 
 fn error_value(alloc: Global, variant: &str) -> Result<Value, NoMemory>

@@ -1,0 +1,5 @@
+// Requests as tables: what is sent, and what is asked for.
+mod loads;
+mod shown;
+mod statements;
+mod targets;
