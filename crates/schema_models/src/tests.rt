@@ -188,3 +188,21 @@ fn names_begin_with_a_letter_or_an_underscore(rt: HostRuntime) {
     assert!(rt; is_name(&[b'a'; 64]));
     assert!(rt; !is_name(&[b'a'; 65]));
 }
+
+#[test]
+fn a_copied_shape_has_the_same_columns(rt: HostRuntime) -> Result<(), Fail> {
+    let alloc = rt.alloc();
+    let value = Column {
+        nullable: false,
+        default: Some(Some(7)),
+        ..VALUE
+    };
+    let shape = build(alloc, Model::Unique, &[KEY, value])?.map_err(|_| "a shape")?;
+    let copy = shape.copy(alloc)?;
+    assert_eq!(rt; copy.model(), Model::Unique);
+    assert_eq!(rt; copy.keys(), 1);
+    assert_eq!(rt; copy.columns().len(), 2);
+    assert!(rt; !copy.columns()[1].nullable);
+    assert!(rt; copy.columns()[1].default.is_some());
+    Ok(())
+}
