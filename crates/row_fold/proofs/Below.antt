@@ -1,6 +1,11 @@
 -- A smaller number is of a smaller key.
-use Rattle.std.proofs.Common.{◌≡◌, ℕ, zero, suc, ◌<◌, ℤ, pos, negsuc, List, [], ◌∷◌, true, take, refl, sym, ap, ◌∙◌, subst, arith}
-use Rattle.std.specs.Ordering.{int_cmp, ordering_reverse}
+use Rattle.std.proofs.Common.{◌≡◌, ℕ, zero, suc, ◌+◌, ◌*◌, ◌<◌, ◌≤◌, ℤ, pos, negsuc, List, [], ◌∷◌, Bool, true, false, nat_lt, take, drop, refl, sym, ap, ◌∙◌, subst, arith}
+use Rattle.std.specs.Prelude.{if◌then◌else◌}
+use Rattle.std.specs.Cmp.Lexicographic.{slice_cmp}
+use Rattle.std.specs.FinMap.{nat_cmp-IsAntisymmetric}
+use Rattle.std.proofs.Math.Nat.{mul-le-mul_right, suc-mul}
+use Rattle.std.proofs.lemmas.Bool.{ltb-true, ltb-false}
+use Rattle.std.specs.Ordering.{int_cmp, nat_cmp, ordering_reverse}
 use Rattle.std.specs.declared.cmp.Ordering.{Ordering}
 use Rattle.std.specs.declared.cmp.Ordering.TheVariants.{Less, Equal, Greater}
 use Rattle.std.proofs.lemmas.Bool.Decides.{nat_tests}
@@ -8,7 +13,7 @@ use Rattle.dl_values.specs.OrderLemmas.{rows_total}
 use Rattle.dl_values.specs.Order.{cell_cmp, row_cmp}
 use Rattle.dl_values.specs.declared.cell.Cell.{Cell}
 use Rattle.dl_values.specs.declared.cell.Cell.TheVariants as cell
-use Rattle.row_fold.specs.Prefix.{int_prefix, cell_prefix, is_exact, row_prefix}
+use Rattle.row_fold.specs.Prefix.{int_prefix, cell_prefix, front_of, is_exact, row_prefix, text_number, text_prefix}
 use Rattle.row_fold.specs.Sorted.{IsSingle}
 use Rattle.schema_models.specs.Folds.{key_in, key_of}
 use Rattle.schema_models.specs.ShapeView.{ShapeView, key_count}
@@ -28,6 +33,102 @@ int_low : (x : ℤ) → int_prefix x < 9223372036854775808
 int_low (pos n) = omega arith
 int_low (negsuc n) = omega arith
 
+-- ---- texts
+
+front_bound : (w f : ℕ) (t : List ℕ) → f < w → front_of t w f < 256 * w
+front_bound w f [] h = omega arith
+front_bound w f (b ∷ bs) h = go (nat_lt b 255) refl
+  where
+    go : (p : Bool) → nat_lt b 255 ≡ p → (if p then b * w + f else 255 * w) < 256 * w
+    go true e =
+        let l : b < 255 = ltb-true b 255 e in
+        let m : b * w ≤ 254 * w = mul-le-mul_right w (omega (arith, l)) in
+        omega (arith, m, h)
+    go false e = omega (arith, h)
+
+less_first : (x y : ℕ) (xs ys : List ℕ) → nat_cmp x y ≡ Less → slice_cmp nat_cmp (x ∷ xs) (y ∷ ys) ≡ Less
+less_first x y xs ys e = rw e refl
+
+less_next : (x y : ℕ) (xs ys : List ℕ) → nat_cmp x y ≡ Equal → slice_cmp nat_cmp xs ys ≡ Less → slice_cmp nat_cmp (x ∷ xs) (y ∷ ys) ≡ Less
+less_next x y xs ys e l = rw e l
+
+below_number : (x y : ℕ) → x < y → nat_cmp x y ≡ Less
+below_number x y h = grind (arith, nat_tests)
+
+front_less : (w f g : ℕ) (xs ys : List ℕ) → f < w → g < w → (f < g → slice_cmp nat_cmp (drop 1 xs) (drop 1 ys) ≡ Less) → front_of xs w f < front_of ys w g → slice_cmp nat_cmp xs ys ≡ Less
+front_less w f g [] [] a b next h = absurd (omega arith)
+front_less w f g [] (y ∷ ys) a b next h = refl
+front_less w f g (x ∷ xs) [] a b next h = absurd (omega arith)
+front_less w f g (x ∷ xs) (y ∷ ys) a b next h = go (nat_lt x 255) (nat_lt y 255) refl refl h
+  where
+    small : (n : ℕ) → nat_lt n 255 ≡ true → n ≤ 254
+    small n e = let l : n < 255 = ltb-true n 255 e in omega (arith, l)
+
+    large : (n : ℕ) → nat_lt n 255 ≡ false → 255 ≤ n
+    large n e = ltb-false n 255 e
+
+    order : (o : Ordering) → nat_cmp x y ≡ o → x * w + f < y * w + g → slice_cmp nat_cmp (x ∷ xs) (y ∷ ys) ≡ Less
+    order Less e l = less_first x y xs ys e
+    order Equal e l =
+        let same : x ≡ y = nat_cmp-IsAntisymmetric x y e in
+        let k : y * w + f < y * w + g = subst (λ n. n * w + f < y * w + g) same l in
+        less_next x y xs ys e (next (omega (arith, k)))
+    order Greater e l =
+        let more : y < x = above x y e in
+        let m : suc y * w ≤ x * w = mul-le-mul_right w more in
+        let s : suc y * w ≡ y * w + w = suc-mul y w in
+        absurd (omega (arith, m, s, l, b))
+      where
+        above : (m n : ℕ) → nat_cmp m n ≡ Greater → n < m
+        above m n e = grind (arith, nat_tests)
+
+    go : (p q : Bool) → nat_lt x 255 ≡ p → nat_lt y 255 ≡ q → (if p then x * w + f else 255 * w) < (if q then y * w + g else 255 * w) → slice_cmp nat_cmp (x ∷ xs) (y ∷ ys) ≡ Less
+    go true true d e l = order (nat_cmp x y) refl l
+    go true false d e l = less_first x y xs ys (below_number x y (omega (arith, small x d, large y e)))
+    go false true d e l =
+        let m : y * w ≤ 254 * w = mul-le-mul_right w (small y e) in
+        absurd (omega (arith, m, l, b))
+    go false false d e l = absurd (omega (arith, l))
+
+-- each weight is above the number of what is behind it
+abbrev Falls : List ℕ → Type 0
+Falls [] = Unit {0}
+Falls (w ∷ ws) = ((t : List ℕ) → text_number ws t < w) × Falls ws
+
+number_less : (ws xs ys : List ℕ) → Falls ws → text_number ws xs < text_number ws ys → slice_cmp nat_cmp xs ys ≡ Less
+number_less [] xs ys a h = absurd (omega (arith, h))
+number_less (w ∷ ws) xs ys a h = front_less w (text_number ws (drop 1 xs)) (text_number ws (drop 1 ys)) xs ys (a.0 (drop 1 xs)) (a.0 (drop 1 ys)) (λ l. number_less ws (drop 1 xs) (drop 1 ys) a.1 l) h
+
+number_bound : (w : ℕ) (ws : List ℕ) → Falls (w ∷ ws) → (t : List ℕ) → text_number (w ∷ ws) t < 256 * w
+number_bound w ws a t = front_bound w (text_number ws (drop 1 t)) t (a.0 (drop 1 t))
+
+falls_1 : Falls (1 ∷ [])
+falls_1 = (λ t. omega arith, tt)
+
+falls_2 : Falls (256 ∷ 1 ∷ [])
+falls_2 = (number_bound 1 [] falls_1, falls_1)
+
+falls_3 : Falls (65536 ∷ 256 ∷ 1 ∷ [])
+falls_3 = (number_bound 256 (1 ∷ []) falls_2, falls_2)
+
+falls_4 : Falls (16777216 ∷ 65536 ∷ 256 ∷ 1 ∷ [])
+falls_4 = (number_bound 65536 (256 ∷ 1 ∷ []) falls_3, falls_3)
+
+falls_5 : Falls (4294967296 ∷ 16777216 ∷ 65536 ∷ 256 ∷ 1 ∷ [])
+falls_5 = (number_bound 16777216 (65536 ∷ 256 ∷ 1 ∷ []) falls_4, falls_4)
+
+falls_6 : Falls (1099511627776 ∷ 4294967296 ∷ 16777216 ∷ 65536 ∷ 256 ∷ 1 ∷ [])
+falls_6 = (number_bound 4294967296 (16777216 ∷ 65536 ∷ 256 ∷ 1 ∷ []) falls_5, falls_5)
+
+falls_7 : Falls (281474976710656 ∷ 1099511627776 ∷ 4294967296 ∷ 16777216 ∷ 65536 ∷ 256 ∷ 1 ∷ [])
+falls_7 = (number_bound 1099511627776 (4294967296 ∷ 16777216 ∷ 65536 ∷ 256 ∷ 1 ∷ []) falls_6, falls_6)
+
+below_texts : (x y : List ℕ) → text_prefix x < text_prefix y → slice_cmp nat_cmp x y ≡ Less
+unfolding text_prefix
+below_texts x y h = number_less (281474976710656 ∷ 1099511627776 ∷ 4294967296 ∷ 16777216 ∷ 65536 ∷ 256 ∷ 1 ∷ []) x y falls_7 h
+
+-- ---- cells
+
 below_cells : (x y : Cell) → cell_prefix x < cell_prefix y → cell_cmp x y ≡ Less
 below_cells cell.Null cell.Null h = absurd (omega arith)
 below_cells cell.Null (cell.Int y) h = refl
@@ -44,7 +145,7 @@ below_cells (cell.Day x) (cell.Text y) h = refl
 below_cells (cell.Text x) cell.Null h = absurd (omega arith)
 below_cells (cell.Text x) (cell.Int y) h = absurd (omega (arith, int_low y))
 below_cells (cell.Text x) (cell.Day y) h = absurd (omega arith)
-below_cells (cell.Text x) (cell.Text y) h = absurd (omega arith)
+below_cells (cell.Text x) (cell.Text y) h = below_texts x y (omega (arith, h))
 
 below_rows : (xs ys : List Cell) → row_prefix xs < row_prefix ys → row_cmp xs ys ≡ Less
 below_rows [] [] h = absurd (omega arith)

@@ -9,6 +9,7 @@ mod keyed;
 mod lists;
 mod merging;
 mod prefix;
+mod present;
 mod runs;
 mod sorted_rows;
 mod sorting;

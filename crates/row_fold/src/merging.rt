@@ -9,33 +9,35 @@ ghost use Rattle.schema_models.specs.declared.model.Model.TheVariants as model;
 
 use crate::key_rule::KeyRule;
 use crate::keyed::Keyed;
-use crate::runs::{begin, end, fill, merge_into};
+use crate::present::Present;
+use crate::runs::fill;
 use dl_values::{Cell, NoMemory, Row, Rows};
 use std::alloc::Global;
 use std::cmp::Ordering;
 
 // Takes the next row: it merges into the row that is being made, or ends that and begins the next one.
-fn take_next(
+fn take_next<'a>(
     alloc: Global,
     rule: &KeyRule,
     out: &mut Rows,
     room: &mut Row,
-    made: &mut Vec<Cell>,
-    next: &[Cell],
+    present: &mut Present<'a>,
+    next: &'a [Cell],
 ) -> Result<(), NoMemory>
     requires empty { room.old ≡ [] }
     requires merges { rule.now.shape.now.model ≡ model.Duplicate → ⊥ }
     ensures emptied { OnOk result (room.new ≡ []) }
-    ensures same { OnOk result ((rest : List (List Cell)) → Ascends row_cmp (key_of rule.now.shape.now) (made.old.items ∷ next.now ∷ rest)
-        → out.new ++ fold_of rule.now.shape.now (made.new.items ∷ rest) ≡ out.old ++ fold_of rule.now.shape.now (made.old.items ∷ next.now ∷ rest)) }
-    ensures ascends { OnOk result ((rest : List (List Cell)) → Ascends row_cmp (key_of rule.now.shape.now) (made.old.items ∷ next.now ∷ rest)
-        → Ascends row_cmp (key_of rule.now.shape.now) (made.new.items ∷ rest)) }
+    ensures same { OnOk result ((rest : List (List Cell)) → Ascends row_cmp (key_of rule.now.shape.now) (present.old ∷ next.now ∷ rest)
+        → out.new ++ fold_of rule.now.shape.now (present.new ∷ rest) ≡ out.old ++ fold_of rule.now.shape.now (present.old ∷ next.now ∷ rest)) }
+    ensures ascends { OnOk result ((rest : List (List Cell)) → Ascends row_cmp (key_of rule.now.shape.now) (present.old ∷ next.now ∷ rest)
+        → Ascends row_cmp (key_of rule.now.shape.now) (present.new ∷ rest)) }
 {
-    match rule.compare(&Keyed::new(made), &Keyed::new(next)) {
-        Ordering::Equal => merge_into(alloc, rule.shape.columns(), made, next),
+    match rule.compare(&Keyed::new(present.cells()), &Keyed::new(next)) {
+        Ordering::Equal => present.merge(alloc, rule.shape.columns(), next),
         _ => {
-            end(out, room, made)?;
-            begin(alloc, made, next)
+            present.end(alloc, out, room)?;
+            present.begin(next);
+            Ok(())
         }
     }
 }
@@ -51,12 +53,18 @@ fn merge_runs(alloc: Global, rule: &KeyRule, sorted: &[Keyed]) -> Result<Rows, N
         return Ok(out);
     }
     let mut room = Row::new(alloc);
-    let mut made = Vec::new(alloc);
-    begin(alloc, &mut made, sorted[0].row)?;
+    let mut present = Present::new(alloc, sorted[0].row);
     for i in 1..sorted.len() {
-        take_next(alloc, rule, &mut out, &mut room, &mut made, sorted[i].row)?;
+        take_next(
+            alloc,
+            rule,
+            &mut out,
+            &mut room,
+            &mut present,
+            sorted[i].row,
+        )?;
     }
-    end(&mut out, &mut room, &mut made)?;
+    present.end(alloc, &mut out, &mut room)?;
     Ok(out)
 }
 

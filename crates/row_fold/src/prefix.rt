@@ -1,5 +1,5 @@
 // A number for each row that is smaller only where the row is.
-ghost use Rattle.std.specs.Prelude.{◌≡◌};
+ghost use Rattle.std.specs.Prelude.{◌≡◌, ◌*◌, ◌<◌, ◌≤◌, drop};
 ghost use Rattle.row_fold.specs.Prefix as prefixes;
 
 use dl_values::Cell;
@@ -17,6 +17,39 @@ fn prefix_of_int(n: i64) -> u64
     }
 }
 
+// The byte at a place, by its weight, before a number of the bytes behind it.
+fn one_more(text: &[u8], at: usize, weight: u64, front: u64) -> u64
+    requires weight { weight ≤ 281474976710656 }
+    requires front { front < weight }
+    ensures is { result ≡ prefixes.front_of (drop at text.now) weight front }
+    ensures bound { result < 256 * weight }
+{
+    if at >= text.len() {
+        return 0;
+    }
+    let byte = text[at] as u64;
+    if byte < 255 {
+        byte * weight + front
+    } else {
+        255 * weight
+    }
+}
+
+// The number of the first seven bytes of a text.
+#[tactic(auto, unfolding(crate::specs::Prefix::text_prefix))]
+fn prefix_of_text(text: &[u8]) -> u64
+    ensures is { result ≡ prefixes.text_prefix text.now }
+    ensures bound { result < 72057594037927936 }
+{
+    let front = one_more(text, 6, 1, 0);
+    let front = one_more(text, 5, 256, front);
+    let front = one_more(text, 4, 65_536, front);
+    let front = one_more(text, 3, 16_777_216, front);
+    let front = one_more(text, 2, 4_294_967_296, front);
+    let front = one_more(text, 1, 1_099_511_627_776, front);
+    one_more(text, 0, 281_474_976_710_656, front)
+}
+
 // The number of a cell.
 fn prefix_of_cell(cell: &Cell) -> u64
     ensures { result ≡ prefixes.cell_prefix cell.now }
@@ -25,7 +58,7 @@ fn prefix_of_cell(cell: &Cell) -> u64
         Cell::Null => 0,
         Cell::Int(n) => prefix_of_int(*n),
         Cell::Day(day) => 0x8000_0000_0000_0000 + (*day as u64).min(0x3fff_ffff_ffff_ffff),
-        Cell::Text(_) => 0xc000_0000_0000_0000,
+        Cell::Text(text) => 0xc000_0000_0000_0000 + prefix_of_text(text.bytes()),
     }
 }
 

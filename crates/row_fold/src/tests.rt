@@ -220,3 +220,50 @@ fn rows_are_looked_at_one_by_one_also_where_they_are_shared(rt: HostRuntime) -> 
     assert_eq!(rt; again.as_slice(), plain.as_slice());
     Ok(())
 }
+
+// Rows with one text each.
+fn rows_of_texts(alloc: Global, texts: &[&[u8]]) -> Result<Rows, NoMemory> {
+    let mut out = Rows::new(alloc);
+    for text in texts {
+        out.push(row(alloc, Cell::Text(Text::new(alloc, text)?), Some(1))?)?;
+    }
+    Ok(out)
+}
+
+#[test]
+fn texts_are_in_order_byte_by_byte(rt: HostRuntime) -> Result<(), Fail> {
+    let alloc = rt.alloc();
+    let given: [&[u8]; 13] = [
+        b"abcdefgh",
+        b"abcdefg",
+        b"",
+        b"abcdefga",
+        b"\xff\x01",
+        b"b",
+        b"\xff",
+        b"abcdef",
+        b"\xc3\xa9",
+        b"\xff\xff",
+        b"abcdefg",
+        b"\x00",
+        b"\xfe\xff",
+    ];
+    let wanted: [&[u8]; 12] = [
+        b"",
+        b"\x00",
+        b"abcdef",
+        b"abcdefg",
+        b"abcdefga",
+        b"abcdefgh",
+        b"b",
+        b"\xc3\xa9",
+        b"\xfe\xff",
+        b"\xff",
+        b"\xff\x01",
+        b"\xff\xff",
+    ];
+    let shape = shape(alloc, Model::Unique, ColType::Varchar(9), Role::Plain)?.ok_or("no shape")?;
+    let quick = fold_rows(alloc, &shape, rows_of_texts(alloc, &given)?)?;
+    assert!(rt; are_same(&quick, &rows_of_texts(alloc, &wanted)?));
+    Ok(())
+}

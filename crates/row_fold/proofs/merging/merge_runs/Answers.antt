@@ -15,7 +15,7 @@ loop-i-preserved c =
     let s = c.args.rule.now.shape.now in
     let i = c.loop-i.i in
     let rest = rows_of (drop (i + 1) c.args.sorted.now) in
-    let made = c.loop-i.made.items in
+    let made = c.loop-i.present in
     let cut = rows_cut c.args.sorted.now i c.index-sorted-i.result (omega arith) in
     let a = subst (λ (l : List (List Cell)). Ascends row_cmp (key_of s) (made ∷ l)) cut c.loop-i.invariant.ascends in
     record {
@@ -25,4 +25,4 @@ loop-i-preserved c =
     }
 
 pub returns : goal.returns
-returns c = runs_done c.args.rule.now.shape.now c.requires.merges c.loop-i.out c.end.new.out c.loop-i.made.items c.args.sorted.now c.loop-i.i c.in_ok-end.ensures.added (omega arith) c.loop-i.invariant.so_far
+returns c = runs_done c.args.rule.now.shape.now c.requires.merges c.loop-i.out c.end.new.out c.loop-i.present c.args.sorted.now c.loop-i.i c.in_ok-end.ensures.added (omega arith) c.loop-i.invariant.so_far

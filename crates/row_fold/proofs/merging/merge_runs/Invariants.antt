@@ -8,6 +8,6 @@ use Rattle.row_fold.proofs.merging.merge_runs.Given as goal
 abbrev pub invariant-loop-i : goal.invariant-loop-i
 invariant-loop-i l = record {
   empty : l.room ≡ [];
-  so_far : l.out ++ fold_of l.rule.shape.now (l.made.items ∷ rows_of (drop l.i l.sorted)) ≡ fold_of l.rule.shape.now (rows_of l.sorted);
-  ascends : Ascends row_cmp (key_of l.rule.shape.now) (l.made.items ∷ rows_of (drop l.i l.sorted));
+  so_far : l.out ++ fold_of l.rule.shape.now (l.present ∷ rows_of (drop l.i l.sorted)) ≡ fold_of l.rule.shape.now (rows_of l.sorted);
+  ascends : Ascends row_cmp (key_of l.rule.shape.now) (l.present ∷ rows_of (drop l.i l.sorted));
 }

@@ -10,22 +10,22 @@ use Rattle.row_fold.proofs.merging.take_next.Goals as goal
 pub returns-in-Equal-clause-same : goal.returns-in-Equal-clause-same
 returns-in-Equal-clause-same c =
     let s = c.args.rule.now.shape.now in
-    let tie = c.in-Equal.ensures ∙ ap₂ (λ x y. row_cmp (key_of s x) (key_of s y)) (c.new.ensures ∙ c.deref.ensures.value) c.new-2.ensures in
-    on_ok_weaker c.merge_into.result (λ m rest a. same_taken s c.requires.merges c.args.out.now c.args.made.now.items c.args.next.now c.merge_into.new.made.items (m ∙ ap (λ l. merged_row l c.args.made.now.items c.args.next.now) c.columns.ensures) tie rest) c.merge_into.ensures
+    let tie = c.in-Equal.ensures ∙ ap₂ (λ x y. row_cmp (key_of s x) (key_of s y)) (c.new.ensures ∙ c.cells.ensures) c.new-2.ensures in
+    on_ok_weaker c.merge.result (λ m rest a. same_taken s c.requires.merges c.args.out.now c.args.present.now c.args.next.now c.merge.new.self (m ∙ ap (λ l. merged_row l c.args.present.now c.args.next.now) c.columns.ensures) tie rest) c.merge.ensures
 
 pub returns-in-Equal-clause-ascends : goal.returns-in-Equal-clause-ascends
 returns-in-Equal-clause-ascends c =
     let s = c.args.rule.now.shape.now in
-    let tie = c.in-Equal.ensures ∙ ap₂ (λ x y. row_cmp (key_of s x) (key_of s y)) (c.new.ensures ∙ c.deref.ensures.value) c.new-2.ensures in
-    on_ok_weaker c.merge_into.result (λ m rest a. same_ascends s c.requires.merges c.args.made.now.items c.args.next.now c.merge_into.new.made.items (m ∙ ap (λ l. merged_row l c.args.made.now.items c.args.next.now) c.columns.ensures) tie rest a) c.merge_into.ensures
+    let tie = c.in-Equal.ensures ∙ ap₂ (λ x y. row_cmp (key_of s x) (key_of s y)) (c.new.ensures ∙ c.cells.ensures) c.new-2.ensures in
+    on_ok_weaker c.merge.result (λ m rest a. same_ascends s c.requires.merges c.args.present.now c.args.next.now c.merge.new.self (m ∙ ap (λ l. merged_row l c.args.present.now c.args.next.now) c.columns.ensures) tie rest a) c.merge.ensures
 
 pub returns-in_ok-end-in_default-clause-same : goal.returns-in_ok-end-in_default-clause-same
 returns-in_ok-end-in_default-clause-same c =
     let s = c.args.rule.now.shape.now in
-    let is = c.compare.ensures ∙ ap₂ (λ x y. row_cmp (key_of s x) (key_of s y)) (c.new.ensures ∙ c.deref.ensures.value) c.new-2.ensures in
-    on_ok_weaker c.begin.result (λ m rest a. next_taken s c.requires.merges c.args.out.now c.end.new.out c.args.made.now.items c.args.next.now c.begin.new.made.items c.in_ok-end-in_default.ensures.added m (λ h. c.in_default.not-Equal (is ∙ sym h)) rest a) c.begin.ensures
+    let is = c.compare.ensures ∙ ap₂ (λ x y. row_cmp (key_of s x) (key_of s y)) (c.new.ensures ∙ c.cells.ensures) c.new-2.ensures in
+    λ rest a. next_taken s c.requires.merges c.args.out.now c.end.new.out c.args.present.now c.args.next.now c.begin.new.self c.in_ok-end-in_default.ensures.added c.begin.ensures (λ h. c.in_default.not-Equal (is ∙ sym h)) rest a
 
 pub returns-in_ok-end-in_default-clause-ascends : goal.returns-in_ok-end-in_default-clause-ascends
 returns-in_ok-end-in_default-clause-ascends c =
     let s = c.args.rule.now.shape.now in
-    on_ok_weaker c.begin.result (λ m rest a. subst (λ (z : List Cell). Ascends row_cmp (key_of s) (z ∷ rest)) (sym m) a.1) c.begin.ensures
+    λ rest a. subst (λ (z : List Cell). Ascends row_cmp (key_of s) (z ∷ rest)) (sym c.begin.ensures) a.1
