@@ -1,7 +1,9 @@
 // The shape of a table's rows.
+use crate::column_def::copy_columns;
 use crate::faults::shape_fault;
 use crate::{ColumnDef, Model, Role, ShapeError};
-use dl_values::Name;
+use dl_values::{Name, NoMemory};
+use std::alloc::Global;
 
 /// A model and columns, keys first, that pass every test of `build`.
 #[derive(Debug, Drop)]
@@ -71,6 +73,19 @@ impl Shape {
         ensures { result ≡ position (λ c. bytes_eq c.name name.now) self.now.columns }
     {
         self.columns.iter().position(|c| c.name == *name)
+    }
+
+    /// An equal shape of its own.
+    pub fn copy(&self, alloc: Global) -> Result<Shape, NoMemory>
+        ensures { IfOk result (λ s. s ≡ self.now) }
+    {
+        match copy_columns(alloc, &self.columns) {
+            Ok(columns) => Ok(Shape {
+                model: self.model,
+                columns,
+            }),
+            Err(e) => Err(e),
+        }
     }
 
     /// Does nothing: each shape passes every test of `build`, and so has a key, which a proof learns by this call.
