@@ -28,6 +28,10 @@ EarlierIsAborted t u = label_key t ≡ label_key u → t.state ≡ state.Aborted
 abbrev pub IdsAscend : Txn → Txn → Type 0
 IdsAscend t u = t.id < u.id
 
+-- the numbers of two tables differ, and the later one has the higher
+abbrev pub NumbersAscend : Table → Table → Type 0
+NumbersAscend a b = a.number < b.number
+
 -- lists joined in their order
 abbrev pub joined : List (List (List Cell)) → List (List Cell)
 joined lists = flat_map (λ l. l) lists

@@ -17,8 +17,8 @@ ghost use Rattle.front_defs.specs.May.{Carries, IsBuilt, May};
 ghost use Rattle.front_defs.specs.Stands.{StandsOpen, View};
 ghost use Rattle.front_defs.specs.Stored.{base_of, lists_of};
 ghost use Rattle.front_defs.specs.Transactions.{places_of, txns_of};
-ghost use Rattle.front_laws.specs.Laws.{CountsOnce, EarlierIsAborted, FoldsTo, HasShape, IdsAscend};
-ghost use Rattle.front_laws.specs.Tidy.{Distinct, Each, Pairs, PlacesFit, Tells, published_of};
+ghost use Rattle.front_laws.specs.Laws.{CountsOnce, EarlierIsAborted, FoldsTo, HasShape, IdsAscend, NumbersAscend};
+ghost use Rattle.front_laws.specs.Tidy.{Distinct, Each, HasHome, Pairs, PlacesFit, Tells, published_of};
 
 /// The records of records are the records.
 pub fn records_are_told_once()
@@ -47,6 +47,12 @@ pub fn what_was_opened_stands_for_the_history()
 pub fn transactions_have_numbers_of_their_own()
     ensures ascend { (H : List Entry) → Legal H → Pairs IdsAscend (txns_of (happened H)) }
     ensures below { (H : List Entry) → Legal H → Each (λ t. t.id < next_of (happened H)) (txns_of (happened H)) }
+{}
+
+/// The live tables have ascending numbers, and each kept transaction is of one of them, in its database.
+pub fn transactions_are_of_live_tables()
+    ensures numbers { (H : List Entry) → Legal H → Pairs NumbersAscend (tables_of (happened H)) }
+    ensures homes { (H : List Entry) → Legal H → Each (HasHome (tables_of (happened H))) (txns_of (happened H)) }
 {}
 
 /// The places of kept transactions differ and are from 1 to the last one, and those of the loads that wait to be

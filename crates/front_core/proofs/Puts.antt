@@ -1,0 +1,119 @@
+-- A change of one of the kept transactions, as contracts see it.
+use Rattle.std.proofs.Common.{◌≡◌, ℕ, zero, suc, ◌+◌, ◌<◌, Bool, true, false, cond, List, [], ◌∷◌, ◌++◌, length, get_or, Option, Some, None, map, refl, sym, ◌∙◌, ap, subst, arith, position, slice_set, nat_eq}
+use Rattle.std.proofs.lemmas.Bool.Decides.{nat_tests}
+use Rattle.std.proofs.lemmas.List.Quantifiers.{position-Some}
+use Rattle.std.proofs.lemmas.Iterator.Adapters.{position_from-zero}
+use Rattle.std.specs.List.{position_from}
+use Rattle.dl_values.specs.declared.cell.Cell.{Cell}
+use Rattle.front_defs.specs.declared.txn.Txn.{Txn}
+use Rattle.front_defs.specs.Stands.{WaitingRows}
+use Rattle.front_defs.specs.Transactions.{changed}
+use Rattle.front_laws.specs.Tidy.{Each, Pairs}
+use Rattle.front_laws.proofs.Lists.{each_imp, each_snoc, pairs_snoc, eq_is}
+use Rattle.front_core.specs.declared.kept.Kept.{Kept}
+use Rattle.front_core.specs.Seen.{seen, waits, Ascending, Below}
+use Rattle.front_core.specs.Parts.{given}
+
+-- the first place of a number
+pub record IsFirst (id i : ℕ) (d : Kept) (ks : List Kept) : Type 0 where
+  pub within : i < length ks
+  pub hit : nat_eq (get_or ks i d).id id ≡ true
+
+pub first_by : (id i : ℕ) (d : Kept) (ks : List Kept) → Some i ≡ position (λ (k : Kept). nat_eq k.id id) ks → IsFirst id i d ks
+first_by id i d ks e = let h = position-Some (λ (k : Kept). nat_eq k.id id) ks i d (sym e) in record { within = h.0; hit = h.1 }
+
+each_index : (P : Kept → Type 0) (ks : List Kept) (i : ℕ) (d : Kept) → i < length ks → Each P ks → P (get_or ks i d)
+each_index P [] i d lt e = absurd (omega arith)
+each_index P (k ∷ ks) zero d lt e = e.0
+each_index P (k ∷ ks) (suc i) d lt e = each_index P ks i d (omega arith) e.1
+
+-- a map that leaves those of other numbers as they are
+pub record Spares {Y : Type 0} (id : ℕ) (g : Kept → Y) (f : Y → Y) : Type 0 where
+  pub other : (k : Kept) → nat_eq k.id id ≡ false → f (g k) ≡ g k
+
+none_touched : {Y : Type 0} (id : ℕ) (g : Kept → Y) (f : Y → Y) → Spares id g f → (ks : List Kept) → Each (λ (k : Kept). nat_eq k.id id ≡ false) ks → map f (map g ks) ≡ map g ks
+none_touched id g f s [] e = refl
+none_touched id g f s (k ∷ ks) e = rw (s.other k e.0) (ap (λ ys. g k ∷ ys) (none_touched id g f s ks e.1))
+
+apart : (n m id : ℕ) → nat_eq n id ≡ true → n < m → nat_eq m id ≡ false
+apart n m id e h = grind (arith, nat_tests)
+
+before : (n m id : ℕ) → nat_eq m id ≡ true → n < m → nat_eq n id ≡ false
+before n m id e h = grind (arith, nat_tests)
+
+-- one put in its place is the map of all
+pub put_there : {Y : Type 0} (id : ℕ) (g : Kept → Y) (f : Y → Y) → Spares id g f → (ks : List Kept) (i : ℕ) (d k : Kept) → Ascending ks → i < length ks → nat_eq (get_or ks i d).id id ≡ true → g k ≡ f (g (get_or ks i d)) → map g (slice_set ks i k) ≡ map f (map g ks)
+put_there id g f s [] i d k a lt hit is = absurd (omega arith)
+put_there id g f s (u ∷ us) zero d k a lt hit is =
+    rw (is, none_touched id g f s us (each_imp (λ (v : Kept). u.id < v.id) (λ (v : Kept). nat_eq v.id id ≡ false) (λ v h. apart u.id v.id id hit h) us a.0)) refl
+put_there id g f s (u ∷ us) (suc i) d k a lt hit is =
+    let other = s.other u (before u.id (get_or us i d).id id hit (each_index (λ (v : Kept). u.id < v.id) us i d (omega arith) a.0)) in
+    rw other (ap (λ ys. g u ∷ ys) (put_there id g f s us i d k a.1 (omega arith) hit is))
+
+-- none of that number
+miss_step : (b : Bool) (n : ℕ) (r : Option ℕ) → cond b (Some n) r ≡ None → (b ≡ false) × (r ≡ None)
+miss_step true n r e = absurd (cc)
+miss_step false n r e = (refl, e)
+
+misses_from : (id n : ℕ) (ks : List Kept) → position_from (λ (k : Kept). nat_eq k.id id) n ks ≡ None → Each (λ (k : Kept). nat_eq k.id id ≡ false) ks
+misses_from id n [] e = tt
+misses_from id n (k ∷ ks) e = let h = miss_step (nat_eq k.id id) n (position_from (λ (k : Kept). nat_eq k.id id) (n + 1) ks) e in (h.0, misses_from id (n + 1) ks h.1)
+
+pub misses : {Y : Type 0} (id : ℕ) (g : Kept → Y) (f : Y → Y) → Spares id g f → (ks : List Kept) → None ≡ position (λ (k : Kept). nat_eq k.id id) ks → map g ks ≡ map f (map g ks)
+misses id g f s ks e = sym (none_touched id g f s ks (misses_from id 0 ks (sym (position_from-zero (λ (k : Kept). nat_eq k.id id) ks) ∙ sym e)))
+
+-- changes spare the others
+pub changed_spares : (id : ℕ) (f : Txn → Txn) → Spares id seen (changed id f)
+changed_spares id f = record { other = λ k e. ap (λ (b : Bool). cond b (f (seen k)) (seen k)) e }
+
+pub given_spares : (id : ℕ) (rows : List (List Cell)) → Spares id waits (given id rows)
+given_spares id rows = record { other = λ k e. ap (λ (b : Bool). cond b (record { txn = k.id; rows = rows }) (waits k)) e }
+
+hit_is : {Y : Type 0} (b : Bool) (x y : Y) → b ≡ true → cond b x y ≡ x
+hit_is true x y e = refl
+hit_is false x y e = absurd (cc)
+
+-- the transactions after a change
+pub txns_put : (id : ℕ) (f : Txn → Txn) (ks : List Kept) (i : ℕ) (d k : Kept) → Ascending ks → Some i ≡ position (λ (k : Kept). nat_eq k.id id) ks → d ≡ get_or ks i d → seen k ≡ f (seen d) → map seen (slice_set ks i k) ≡ map (changed id f) (map seen ks)
+txns_put id f ks i d k a e at is =
+    let h = first_by id i d ks e in
+    put_there id seen (changed id f) (changed_spares id f) ks i d k a h.within h.hit
+    (is ∙ ap (λ (x : Kept). f (seen x)) at ∙ sym (hit_is (nat_eq (get_or ks i d).id id) (f (seen (get_or ks i d))) (seen (get_or ks i d)) h.hit))
+
+pub waiting_put : (id : ℕ) (rows : List (List Cell)) (ks : List Kept) (i : ℕ) (d k : Kept) → Ascending ks → Some i ≡ position (λ (k : Kept). nat_eq k.id id) ks → d ≡ get_or ks i d → waits k ≡ record { txn = d.id; rows = rows } → map waits (slice_set ks i k) ≡ map (given id rows) (map waits ks)
+waiting_put id rows ks i d k a e at is =
+    let h = first_by id i d ks e in
+    put_there id waits (given id rows) (given_spares id rows) ks i d k a h.within h.hit
+    (is ∙ ap (λ (x : Kept). record { txn = x.id; rows = rows }) at ∙ sym (hit_is (nat_eq (get_or ks i d).id id) (record { txn = (get_or ks i d).id; rows = rows }) (waits (get_or ks i d)) h.hit))
+
+-- a change keeps the order of the numbers
+each_set : (P : Kept → Type 0) (ks : List Kept) (i : ℕ) (k : Kept) → P k → Each P ks → Each P (slice_set ks i k)
+each_set P [] i k h e = tt
+each_set P (u ∷ us) zero k h e = (h, e.1)
+each_set P (u ∷ us) (suc i) k h e = (e.0, each_set P us i k h e.1)
+
+ascending_set : (ks : List Kept) (i : ℕ) (d k : Kept) → i < length ks → k.id ≡ (get_or ks i d).id → Ascending ks → Ascending (slice_set ks i k)
+ascending_set [] i d k lt e a = tt
+ascending_set (u ∷ us) zero d k lt e a = (each_imp (λ (v : Kept). u.id < v.id) (λ (v : Kept). k.id < v.id) (λ v h. omega (arith, e, h)) us a.0, a.1)
+ascending_set (u ∷ us) (suc i) d k lt e a =
+    let h = each_index (λ (v : Kept). u.id < v.id) us i d (omega arith) a.0 in
+    (each_set (λ (v : Kept). u.id < v.id) us i k (omega (arith, e, h)) a.0, ascending_set us i d k (omega arith) e a.1)
+
+below_set : (n : ℕ) (ks : List Kept) (i : ℕ) (d k : Kept) → i < length ks → k.id ≡ (get_or ks i d).id → Below n ks → Below n (slice_set ks i k)
+below_set n ks i d k lt e b = let h = each_index (λ (v : Kept). v.id < n) ks i d lt b in each_set (λ (v : Kept). v.id < n) ks i k (omega (arith, e, h)) b
+
+same_id : (ks : List Kept) (i : ℕ) (d k : Kept) → d ≡ get_or ks i d → k.id ≡ d.id → k.id ≡ (get_or ks i d).id
+same_id ks i d k at is = is ∙ ap (λ (x : Kept). x.id) at
+
+pub ascending_put : (id : ℕ) (ks : List Kept) (i : ℕ) (d k : Kept) → Ascending ks → Some i ≡ position (λ (k : Kept). nat_eq k.id id) ks → d ≡ get_or ks i d → k.id ≡ d.id → Ascending (slice_set ks i k)
+ascending_put id ks i d k a e at is = ascending_set ks i d k (first_by id i d ks e).within (same_id ks i d k at is) a
+
+pub below_put : (n id : ℕ) (ks : List Kept) (i : ℕ) (d k : Kept) → Some i ≡ position (λ (k : Kept). nat_eq k.id id) ks → d ≡ get_or ks i d → k.id ≡ d.id → Below n ks → Below n (slice_set ks i k)
+below_put n id ks i d k e at is b = below_set n ks i d k (first_by id i d ks e).within (same_id ks i d k at is) b
+
+-- one more with the next number
+pub ascending_snoc : (next : ℕ) (ks : List Kept) (k : Kept) → k.id ≡ next → Ascending ks → Below next ks → Ascending (ks ++ k ∷ [])
+ascending_snoc next ks k e a b = pairs_snoc (λ (x y : Kept). x.id < y.id) ks k a (each_imp (λ (x : Kept). x.id < next) (λ (x : Kept). x.id < k.id) (λ x h. omega (arith, e, h)) ks b)
+
+pub below_snoc : (next : ℕ) (ks : List Kept) (k : Kept) → k.id ≡ next → Below next ks → Below (next + 1) (ks ++ k ∷ [])
+below_snoc next ks k e b = each_snoc (λ (x : Kept). x.id < next + 1) ks k (each_imp (λ (x : Kept). x.id < next) (λ (x : Kept). x.id < next + 1) (λ x h. omega (arith, h)) ks b) (omega (arith, e))

@@ -1,0 +1,17 @@
+use Rattle.std.proofs.Common.{◌≡◌, Some, rules, subst}
+use Rattle.labels.specs.declared.txn_state.TxnState.TheVariants as state
+use Rattle.front_defs.specs.Stands.{View, waiting_for}
+use Rattle.front_defs.specs.Transactions.{due}
+use Rattle.front_core.specs.Parts.{IsPublished, StoresRows, with_end}
+use Rattle.front_core.specs.Seen.{seen, rows_in, folded_in}
+use Rattle.front_core.proofs.Texts.{published_by}
+use Rattle.front_core.proofs.front.Front.publish.Goals as goal
+
+pub returns-in-Ok-clause-well : goal.returns-in-Ok-clause-well
+returns-in-Ok-clause-well c = λ _.
+    let k = c.in-Some.load.now in
+    let old = c.args.self.now in
+    let f : Some (seen k) ≡ due old.txns = search rules in
+    let w : waiting_for k.id old.waiting ≡ folded_in k.held = search rules in
+    let t : StoresRows k.table (rows_in k.held) (folded_in k.held) old.tablets c.store_held.new.catalogue.tablets = search rules in
+    published_by c.args.at old k c.store_held.new.catalogue.tablets _ f w t (search rules)

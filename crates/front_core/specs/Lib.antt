@@ -1,0 +1,4 @@
+pub mod Seen
+pub mod Refused
+pub mod Parts
+pub mod Made

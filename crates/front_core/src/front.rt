@@ -1,0 +1,410 @@
+// The front: what stands in the service, and how it answers commands.
+ghost use Rattle.std.specs.Prelude.{◌≡◌, ◌≤◌, ℕ, [], ◌∷◌, List, Some, false, IfOk, IfErr, OnOk, OnErr, None, true};
+ghost use Rattle.front_defs.specs.Answer.{Aborts, Begins, CreatesDb, CreatesTable, Publishes, Submits, bad_label, label_for, placed_for, plan_of, used};
+ghost use Rattle.front_defs.specs.History.{outcome, Well, Refused, Faulted};
+ghost use Rattle.front_defs.specs.Catalogue.{table_named};
+ghost use Rattle.front_defs.specs.Transactions.{begun_txn, label_of, txn_at, txn_by};
+ghost use Rattle.front_core.specs.Parts.{BeginsLoad, EndsLoad, IsCalm, IsFront, IsPublished, TakesRows, Shares, SharesLists, StoresRows, is_fit, set_rows, with_db, with_table};
+ghost use Rattle.front_defs.specs.declared.history.Entry.{Entry};
+ghost use Rattle.front_defs.specs.declared.history.Entry.TheVariants.{Made};
+ghost use Rattle.front_defs.specs.Legal.{Legal};
+ghost use Rattle.front_defs.specs.May.{May};
+ghost use Rattle.front_defs.specs.Stands.{Stands};
+ghost use Rattle.front_core.specs.Made.{made};
+ghost use Rattle.front_core.specs.Refused.{RefusesLabel, held_refusal};
+ghost use Rattle.front_defs.specs.declared.reply.Reply.TheVariants as reply;
+ghost use Rattle.front_core.specs.Seen.{folded_in, kept_for, rows_in};
+ghost use Rattle.labels.specs.declared.txn_state.TxnState.TheVariants as state;
+
+use crate::catalogue::Catalogue;
+use crate::defined::define;
+use crate::fitting::held_of;
+use crate::kept::Kept;
+use crate::names::{auto_label, is_label};
+use crate::transactions::Transactions;
+use dl_outside::Steps;
+use dl_values::{Name, NoMemory};
+use front_defs::{Command, Reply, Table, TxnKey};
+use front_laws::laws;
+use labels::TxnState;
+use merge_read::Snapshot;
+use rowsets::Rowset;
+use schema_models::is_name;
+use shadow_writes::{Built, Plan};
+use sql_text::TableDef;
+use std::alloc::Global;
+use std::marker::Model;
+use std::sync::Arc;
+use std::sync::ledger::Ledger;
+
+// At most so many databases, and so many tables in all.
+const MOST: usize = 1000;
+
+/// What stands in the service: its catalogue, its transactions and what is stored. It answers one command at a time.
+#[derive(Drop)]
+pub struct Front {
+    alloc: Global,
+    catalogue: Catalogue,
+    transactions: Transactions,
+}
+
+impl Model for Front {
+    ghost use Rattle.front_defs.specs.Stands.{View};
+    ghost use Rattle.front_core.specs.Parts.{front_view};
+
+    ghost Value = { View };
+
+    ghost view = { λ f. front_view f.catalogue f.transactions };
+}
+
+// The label that a load gets, or why the one that it asks for is refused.
+fn label_or_refusal(alloc: Global, label: Option<Name>, next: u64) -> Result<Name, Reply>
+    ensures ok { IfOk result (λ l. (l ≡ label_for label next) × (bad_label label ≡ None)) }
+    ensures err { IfErr result (RefusesLabel label) }
+{
+    match label {
+        None => match auto_label(alloc, next) {
+            Ok(label) => Ok(label),
+            Err(NoMemory) => Err(Reply::NoMemory),
+        },
+        Some(label) => {
+            if is_label(&label) {
+                Ok(label)
+            } else {
+                Err(Reply::BadLabel)
+            }
+        }
+    }
+}
+
+// Why a label that is held cannot be used.
+fn used_refusal(holder: Option<(u64, TxnState)>) -> Option<Reply>
+    ensures { result ≡ held_refusal holder }
+{
+    match holder {
+        None => None,
+        Some((txn, state)) => {
+            if state == TxnState::Aborted {
+                None
+            } else {
+                Some(Reply::Used { txn, state })
+            }
+        }
+    }
+}
+
+// The plan of a load of a table as it is now.
+fn plan(alloc: Global, txn: u64, table: &Table) -> Result<Plan, NoMemory>
+    ensures { IfOk result (λ p. p ≡ plan_of txn table.now) }
+{
+    let layout = table.layout.copy(alloc)?;
+    let base = table.shape.copy(alloc)?;
+    Ok(Plan {
+        txn,
+        schema: table.schema,
+        layout,
+        base,
+    })
+}
+
+// A transaction that begins.
+fn begun(
+    alloc: Global,
+    txn: u64,
+    table: &Table,
+    label: Name,
+    two_phase: bool,
+    at: u64,
+) -> Result<Kept, NoMemory>
+    ensures { IfOk result (λ k. k ≡ kept_for txn table.now label two_phase at) }
+{
+    let db = table.db.copy(alloc)?;
+    Ok(Kept {
+        id: txn,
+        db,
+        table: table.number,
+        label,
+        state: TxnState::Prepare,
+        since: at,
+        two_phase,
+        schema: table.schema,
+        place: None,
+        told: false,
+        held: None,
+    })
+}
+
+// The shapes of a table, and what is stored of it.
+fn snapshot_of(
+    alloc: Global,
+    catalogue: &Catalogue,
+    table: &Table,
+) -> Result<Snapshot<Arc<Rowset>>, NoMemory>
+    ensures { IfOk result (λ s. SharesLists table.now catalogue.now.tablets (reply.Snap s)) }
+{
+    let base = table.shape.copy(alloc)?;
+    let index = table.shape.copy(alloc)?;
+    let lists = catalogue.lists(alloc, table.number)?;
+    Ok(Snapshot { base, index, lists })
+}
+
+// Adds the rows of a load to what is stored of its table, where it has some.
+fn store_held(alloc: Global, catalogue: &mut Catalogue, load: &Kept) -> Result<(), NoMemory>
+    ensures ok { OnOk result (StoresRows load.now.table (rows_in load.now.held) (folded_in load.now.held) catalogue.old.tablets catalogue.new.tablets) }
+    ensures rest { catalogue.new ≡ record catalogue.old { tablets = catalogue.new.tablets } }
+    ensures err { OnErr result (catalogue.new ≡ catalogue.old) }
+{
+    match &load.held {
+        None => Ok(()),
+        Some(held) => {
+            if held.rows.rows().is_empty() {
+                return Ok(());
+            }
+            catalogue.store(alloc, load.table, &held.rowset)
+        }
+    }
+}
+
+impl Front {
+    /// A front without databases.
+    pub fn new(alloc: Global) -> Front
+        ensures { result ≡ record { databases = []; tables = []; last_table = 0; txns = []; range = 0; next = 1; places = 0; tablets = []; waiting = []; live = 0; broken = false; faults = 0 } }
+    {
+        Front {
+            alloc,
+            catalogue: Catalogue::new(alloc),
+            transactions: Transactions::new(alloc),
+        }
+    }
+
+    // Does nothing: what stands is of known tables, and what waits is of the transactions, as a proof learns by this call.
+    fn vouch(&self)
+        ensures { IsFront self.now }
+    {
+        self.catalogue.vouch();
+        self.transactions.vouch();
+    }
+
+    fn create_db(&mut self, name: Name, if_not_exists: bool) -> Reply
+        ensures answer { CreatesDb name if_not_exists self.old.databases result }
+        ensures well { outcome result ≡ Well → self.new ≡ with_db name self.old }
+        ensures kept { outcome result ≡ Refused → self.new ≡ self.old }
+        ensures works { outcome result ≡ Faulted → ⊥ }
+        ensures calm { IsCalm self.old self.new }
+    {
+        if !is_name(name.bytes()) {
+            return Reply::BadName;
+        }
+        if self.catalogue.has_db(&name) {
+            return if if_not_exists {
+                Reply::Done
+            } else {
+                Reply::DbExists
+            };
+        }
+        if self.catalogue.databases() >= MOST {
+            return Reply::TooManyDbs;
+        }
+        match self.catalogue.add_db(name) {
+            Ok(()) => Reply::Done,
+            Err(NoMemory) => Reply::NoMemory,
+        }
+    }
+
+    fn create_table(&mut self, db: Name, table: Name, def: TableDef, if_not_exists: bool) -> Reply
+        ensures answer { CreatesTable db table def if_not_exists self.old.databases self.old.tables result }
+        ensures well { outcome result ≡ Well → self.new ≡ with_table db table def self.old }
+        ensures kept { outcome result ≡ Refused → self.new ≡ self.old }
+        ensures works { outcome result ≡ Faulted → ⊥ }
+        ensures calm { IsCalm self.old self.new }
+    {
+        if !self.catalogue.has_db(&db) {
+            return Reply::UnknownDb;
+        }
+        if self.catalogue.table(&db, &table).is_some() {
+            return if if_not_exists {
+                Reply::Done
+            } else {
+                Reply::TableExists
+            };
+        }
+        if !is_name(table.bytes()) {
+            return Reply::BadName;
+        }
+        if self.catalogue.tables() >= MOST {
+            return Reply::TooManyTables;
+        }
+        let made = match define(self.alloc, &table, def) {
+            Ok(made) => made,
+            Err(refusal) => return refusal,
+        };
+        match self.catalogue.add_table(self.alloc, db, table, made) {
+            Ok(()) => Reply::Done,
+            Err(NoMemory) => Reply::NoMemory,
+        }
+    }
+
+    fn begin(
+        &mut self,
+        db: Name,
+        table: Name,
+        label: Option<Name>,
+        two_phase: bool,
+        at: u64,
+    ) -> Reply
+        ensures answer { Begins db table label self.old.databases self.old.tables self.old.txns self.old.next result }
+        ensures well { outcome result ≡ Well → BeginsLoad (table_named db table self.old.tables) label two_phase at self.old self.new }
+        ensures kept { outcome result ≡ Refused → self.new ≡ self.old }
+        ensures works { outcome result ≡ Faulted → ⊥ }
+        ensures calm { IsCalm self.old self.new }
+    {
+        if !self.catalogue.has_db(&db) {
+            return Reply::UnknownDb;
+        }
+        let table = match self.catalogue.table(&db, &table) {
+            None => return Reply::UnknownTable,
+            Some(table) => table,
+        };
+        let txn = self.transactions.next();
+        let label = match label_or_refusal(self.alloc, label, txn) {
+            Ok(label) => label,
+            Err(refusal) => return refusal,
+        };
+        match used_refusal(self.transactions.label_state(&db, &label)) {
+            None => {}
+            Some(refusal) => return refusal,
+        }
+        let plan = match plan(self.alloc, txn, table) {
+            Ok(plan) => plan,
+            Err(NoMemory) => return Reply::NoMemory,
+        };
+        let load = match begun(self.alloc, txn, table, label, two_phase, at) {
+            Ok(load) => load,
+            Err(NoMemory) => return Reply::NoMemory,
+        };
+        match self.transactions.begin(load) {
+            Ok(()) => Reply::Begun { txn, plan },
+            Err(NoMemory) => Reply::NoMemory,
+        }
+    }
+
+    fn submit(&mut self, txn: u64, built: Built, at: u64) -> Reply
+        ensures answer { is_fit built.rows built.targets ≡ true → Submits txn at self.old.txns self.old.places result }
+        ensures well { outcome result ≡ Well → TakesRows (txn_at txn self.old.txns) txn built.rows (set_rows built.targets) at self.old self.new }
+        ensures kept { outcome result ≡ Refused → self.new ≡ self.old }
+        ensures works { outcome result ≡ Faulted → ⊥ }
+        ensures calm { IsCalm self.old self.new }
+    {
+        match held_of(built) {
+            None => Reply::NoSuchTxn,
+            Some(held) => self.transactions.submit(txn, held, at),
+        }
+    }
+
+    fn publish(&mut self, at: u64) -> Reply
+        ensures answer { Publishes self.old.txns result }
+        ensures well { outcome result ≡ Well → IsPublished at self.old self.new }
+        ensures kept { outcome result ≡ Refused → self.new ≡ self.old }
+        ensures works { outcome result ≡ Faulted → ⊥ }
+        ensures calm { IsCalm self.old self.new }
+    {
+        let load = match self.transactions.due() {
+            None => return Reply::NothingToPublish,
+            Some(load) => load,
+        };
+        let txn = load.id;
+        let place = load.place.unwrap_or(0);
+        match store_held(self.alloc, &mut self.catalogue, load) {
+            Ok(()) => {
+                self.transactions.end(txn, TxnState::Visible, at);
+                Reply::Published { txn, place }
+            }
+            Err(NoMemory) => Reply::NoMemory,
+        }
+    }
+
+    fn abort(&mut self, db: Name, key: TxnKey, at: u64) -> Reply
+        ensures answer { Aborts db key self.old.databases self.old.txns result }
+        ensures well { outcome result ≡ Well → EndsLoad (txn_by db key self.old.txns) state.Aborted at self.old self.new }
+        ensures kept { outcome result ≡ Refused → self.new ≡ self.old }
+        ensures works { outcome result ≡ Faulted → ⊥ }
+        ensures calm { IsCalm self.old self.new }
+    {
+        if !self.catalogue.has_db(&db) {
+            return Reply::UnknownDb;
+        }
+        let (txn, state) = match self.transactions.txn_by(&db, &key) {
+            None => return Reply::NoSuchTxn,
+            Some(load) => (load.id, load.state),
+        };
+        match state {
+            TxnState::Prepare | TxnState::Precommitted => {
+                self.transactions.end(txn, TxnState::Aborted, at);
+                Reply::Aborted { txn }
+            }
+            TxnState::Committed | TxnState::Visible | TxnState::Aborted => {
+                Reply::WrongState { state }
+            }
+        }
+    }
+
+    fn snapshot(&self, db: Name, table: Name) -> Reply
+        ensures answer { Shares db table self.now.databases self.now.tables self.now.tablets result }
+        ensures works { outcome result ≡ Faulted → ⊥ }
+        ensures calm { IsCalm self.now self.now }
+    {
+        if !self.catalogue.has_db(&db) {
+            return Reply::UnknownDb;
+        }
+        match self.catalogue.table(&db, &table) {
+            None => Reply::UnknownTable,
+            Some(table) => match snapshot_of(self.alloc, &self.catalogue, table) {
+                Ok(snapshot) => Reply::Snap { snapshot },
+                Err(NoMemory) => Reply::NoMemory,
+            },
+        }
+    }
+
+    /// Answers a command. A command that is refused changes nothing.
+    pub fn step<L: Ledger>(&mut self, command: Command, steps: &mut Steps<L>) -> Reply
+        ensures stands { (H : List Entry) (seat : List ℕ) → Stands self.old H → Legal H → May H command → Stands self.new (Made (made seat command result) ∷ H) }
+        ensures legal { (H : List Entry) (seat : List ℕ) → Stands self.old H → Legal H → May H command → Legal (Made (made seat command result) ∷ H) }
+        ensures kept { outcome result ≡ Refused → self.new ≡ self.old }
+        ensures works { outcome result ≡ Faulted → ⊥ }
+        ensures quiet { steps.new ≡ steps.old }
+    {
+        self.vouch();
+        laws::transactions_have_numbers_of_their_own();
+        laws::transactions_are_of_live_tables();
+        laws::a_submitted_load_is_of_its_table();
+        laws::stored_lists_fold_to_the_base();
+        let _steps = steps;
+        match command {
+            Command::CreateDb {
+                name,
+                if_not_exists,
+            } => self.create_db(name, if_not_exists),
+            Command::CreateTable {
+                db,
+                table,
+                def,
+                if_not_exists,
+            } => self.create_table(db, table, def, if_not_exists),
+            Command::Begin {
+                db,
+                table,
+                label,
+                two_phase,
+                at,
+            } => self.begin(db, table, label, two_phase, at),
+            Command::Submit { txn, built, at } => self.submit(txn, built, at),
+            Command::Publish { at } => self.publish(at),
+            Command::Abort { db, txn, at } => self.abort(db, txn, at),
+            Command::Snapshot {
+                db,
+                table,
+                query: _,
+            } => self.snapshot(db, table),
+        }
+    }
+}

@@ -1,0 +1,15 @@
+//! The core of the service: a front answers commands one at a time, and stands for the history of what it answered.
+#![tactic(auto)]
+
+mod catalogue;
+mod changes;
+mod defined;
+mod fitting;
+mod front;
+mod kept;
+mod names;
+mod scans;
+mod transactions;
+
+pub use front::Front;
+pub use front_laws::laws;
