@@ -1,0 +1,4 @@
+use Rattle.load_server.proofs.tests.replies.ran.Given as goal
+
+abbrev pub ghosts-session_over : goal.ghosts-run
+ghosts-session_over a = record { name = a.blank.name; parts = a.blank.parts }

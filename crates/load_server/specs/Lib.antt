@@ -1,0 +1,10 @@
+pub mod Responses
+pub mod Reports
+pub mod Building
+pub mod Scripts
+pub mod Preparing
+pub mod Results
+pub mod Exchanges
+pub mod Sessions
+pub mod Refusing
+pub mod Steps

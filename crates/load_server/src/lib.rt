@@ -1,0 +1,28 @@
+//! Answers the requests of one connection: each load and statement by its turns at the core, each response in its order.
+//!
+//! Main interface: [`session`].
+#![tactic(auto)]
+
+mod abort;
+mod answer;
+mod build;
+mod exchange;
+mod load;
+mod loading;
+mod prepare;
+mod publish;
+mod refusal;
+mod report;
+mod respond;
+mod select;
+mod sent;
+mod session_end;
+mod sessions;
+mod statement;
+mod submit;
+
+pub use session_end::SessionEnd;
+pub use sessions::{MAX_REQUESTS, session};
+
+#[cfg(test)]
+mod tests;
