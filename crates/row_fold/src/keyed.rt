@@ -14,6 +14,7 @@ pub struct Keyed<'a> {
 }
 
 impl<'a> Keyed<'a> {
+    #[inline(always)]
     pub fn new(row: &'a [Cell]) -> Keyed<'a>
         ensures { result.row.now ≡ row.now }
     {

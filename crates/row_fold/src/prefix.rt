@@ -35,7 +35,8 @@ fn one_more(text: &[u8], at: usize, weight: u64, front: u64) -> u64
     }
 }
 
-// The number of the first seven bytes of a text.
+// The number of the first seven bytes of a text. It stands by itself, so that the numbers of other cells stay short.
+#[inline(never)]
 #[tactic(auto, unfolding(crate::specs::Prefix::text_prefix))]
 fn prefix_of_text(text: &[u8]) -> u64
     ensures is { result ≡ prefixes.text_prefix text.now }
@@ -51,6 +52,7 @@ fn prefix_of_text(text: &[u8]) -> u64
 }
 
 // The number of a cell.
+#[inline(always)]
 fn prefix_of_cell(cell: &Cell) -> u64
     ensures { result ≡ prefixes.cell_prefix cell.now }
 {
@@ -63,6 +65,7 @@ fn prefix_of_cell(cell: &Cell) -> u64
 }
 
 // The number of a row, which is that of its first cell.
+#[inline(always)]
 pub fn prefix_of(row: &[Cell]) -> u64
     ensures { result ≡ prefixes.row_prefix row.now }
 {

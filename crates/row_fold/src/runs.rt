@@ -73,7 +73,10 @@ pub fn fill(alloc: Global, room: &mut Row, cells: &[Cell]) -> Result<(), NoMemor
     ensures { OnOk result (room.new ≡ cells.now) }
 {
     for cell in cells {
-        room.push(copy_cell(alloc, cell)?)?;
+        match cell {
+            Cell::Int(value) => room.push(Cell::Int(*value))?,
+            cell => room.push(copy_cell(alloc, cell)?)?,
+        }
     }
     Ok(())
 }
