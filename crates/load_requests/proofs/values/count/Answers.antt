@@ -1,5 +1,5 @@
-use Rattle.std.proofs.Common.{◌∙◌, sym, arith, refl, drop}
-use Rattle.load_requests.proofs.Places.{Counted, one_more, none_more, all_counted}
+use Rattle.std.proofs.Common.{◌∙◌, sym, arith}
+use Rattle.load_requests.proofs.Places.{one_more, none_more, all_counted}
 use Rattle.load_requests.proofs.values.count.Goals as goal
 use Rattle.load_requests.proofs.values.count.Goals.{then-is_same, else-is_same}
 
