@@ -1,5 +1,5 @@
 -- The first token of a text.
-use Rattle.std.proofs.Common.{◌≡◌, ◌+◌, ◌∙◌, arith, ℕ, zero, suc, Bool, true, false, cond, Option, Some, None, List, [], ◌∷◌, take, drop, sym, ap, refl, subst, MatchOption, option_map}
+use Rattle.std.proofs.Common.{◌≡◌, ◌+◌, arith, ℕ, zero, suc, Bool, true, false, cond, Option, Some, None, List, [], ◌∷◌, drop, sym, ap, refl, subst, MatchOption, option_map}
 use Rattle.std.specs.List.{prefix_len}
 use Rattle.load_requests.specs.Bytes.{is_blank}
 use Rattle.load_requests.specs.declared.token.Kind.{Kind}

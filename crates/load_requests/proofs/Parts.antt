@@ -1,6 +1,6 @@
 -- The parts of a path.
-use Rattle.std.proofs.Common.{◌≡◌, ◌+◌, ◌-◌, ◌<◌, ◌≤◌, length, ◌∙◌, ℕ, suc, arith, Bool, true, false, cond, not, Option, Some, None, List, [], ◌∷◌, take, drop, sym, ap, refl}
-use Rattle.std.specs.List.{prefix_len, slice_split, onto_first}
+use Rattle.std.proofs.Common.{◌≡◌, ◌+◌, ◌-◌, ◌<◌, ◌≤◌, length, ◌∙◌, ℕ, suc, arith, Bool, true, false, cond, not, None, List, [], ◌∷◌, take, drop, sym, ap, refl}
+use Rattle.std.specs.List.{prefix_len, onto_first}
 use Rattle.std.proofs.lemmas.List.{take_all}
 use Rattle.load_requests.specs.Bytes.{is_slash}
 use Rattle.load_requests.specs.Targets.{parts_of, only_five}

@@ -1,5 +1,5 @@
 -- Names one by one.
-use Rattle.std.proofs.Common.{◌≡◌, ◌+◌, ◌<◌, ◌∙◌, ℕ, suc, Bool, true, false, cond, Option, Some, None, List, [], ◌∷◌, map, drop, get_or, length, sym, ap, refl, add-one}
+use Rattle.std.proofs.Common.{◌≡◌, ◌+◌, ◌<◌, ◌∙◌, ℕ, true, false, cond, Some, List, ◌∷◌, map, drop, get_or, length, sym, ap, add-one}
 use Rattle.std.specs.Str.{str_eq_ignore_ascii_case}
 use Rattle.std.proofs.Math.Seq.{drop-cons}
 use Rattle.load_requests.specs.LoadFields.{named_in}

@@ -1,6 +1,6 @@
 -- The fields of a load (Apache Doris documentation, "Stream Load", "Load configuration parameters"; which values are taken
 -- is this project's own). Names are compared without case.
-use Rattle.std.specs.Prelude.{ℕ, ◌&&◌, Bool, not, is_some, List, [], ◌∷◌, ◌++◌, codes, Option, Some, None, if◌then◌else◌}
+use Rattle.std.specs.Prelude.{ℕ, Bool, is_some, List, [], ◌∷◌, ◌++◌, codes, Option, Some, None, if◌then◌else◌}
 use Rattle.std.specs.List.{list_any}
 use Rattle.std.specs.Str.{bytes_eq, is_utf8, str_eq_ignore_ascii_case}
 use Rattle.http_wire.specs.Fields.{is_named}

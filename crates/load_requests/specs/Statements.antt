@@ -13,7 +13,6 @@ use Rattle.schema_models.specs.declared.model.Model.TheVariants as model
 use Rattle.sql_text.specs.declared.table_def.ColumnText.{ColumnText}
 use Rattle.sql_text.specs.declared.table_def.KeyClause.{KeyClause}
 use Rattle.sql_text.specs.declared.table_def.TableDef.{TableDef}
-use Rattle.load_requests.specs.declared.token.Kind.{Kind}
 use Rattle.load_requests.specs.declared.token.Kind.TheVariants as kind
 use Rattle.load_requests.specs.declared.statement.Statement.{Statement}
 use Rattle.load_requests.specs.declared.statement.Statement.TheVariants as statement

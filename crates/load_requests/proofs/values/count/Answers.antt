@@ -1,5 +1,5 @@
-use Rattle.std.proofs.Common.{◌∙◌, sym, arith, refl, drop}
-use Rattle.load_requests.proofs.Places.{Counted, one_more, none_more, all_counted}
+use Rattle.std.proofs.Common.{◌∙◌, sym, arith}
+use Rattle.load_requests.proofs.Places.{one_more, none_more, all_counted}
 use Rattle.load_requests.proofs.values.count.Goals as goal
 use Rattle.load_requests.proofs.values.count.Goals.{then-is_same, else-is_same}
 
@@ -13,7 +13,7 @@ loop-place-preserved c = elim c.if-is_same.branch [
 ]
 
 pub overflow_add-count : goal.overflow_add-count
-overflow_add-count c = omega (arith, c.loop-place.invariant.few, c.loop-place-test.true, c.len-place-end.auto)
+overflow_add-count c = omega (arith, c.loop-place.invariant.few, c.loop-place-test.true)
 
 pub returns : goal.returns
 returns c = all_counted c.args.name.now c.args.fields.now c.loop-place.count c.loop-place.place (omega (arith, c.loop-place-test.false, c.len-place-end.ensures)) c.loop-place.invariant
