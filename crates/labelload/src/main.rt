@@ -3,7 +3,7 @@
 
 ghost use Rattle.std.specs.Prelude.{◌≡◌, ◌<◌};
 
-use dl_outside::{ReaderSource, Sink, Source, Steps, WriterSink};
+use dl_outside::{Clock, ReaderSource, Sink, Source, Steps, SystemClock, WriterSink};
 use dl_values::NoMemory;
 use service::{Exit, run};
 use std::alloc::Global;
@@ -13,11 +13,12 @@ use std::sync::ledger::{Blank, Ledger};
 use std::{env, io};
 
 // Runs the words with a count of steps of its own, which nobody asks for.
-fn run_once<S: Source, K: Sink, L: Ledger>(
+fn run_once<S: Source, K: Sink, C: Clock, L: Ledger>(
     alloc: Global,
     words: &[String],
     source: &mut S,
     sink: &mut K,
+    clock: &mut C,
     blank: Blank,
 ) -> Exit
     requires name { blank.name ≡ L.name }
@@ -25,7 +26,7 @@ fn run_once<S: Source, K: Sink, L: Ledger>(
     requires some { 0 < L.parts }
 {
     let mut steps: Steps<L> = Steps::new(blank);
-    run(alloc, words, source, sink, &mut steps)
+    run(alloc, words, source, sink, clock, &mut steps)
 }
 
 // The words behind the program's name.
@@ -56,7 +57,9 @@ fn run_words(rt: &HostRuntime, all: env::Args) -> Exit {
     };
     let mut source = ReaderSource::new(rt.reader());
     let mut sink = WriterSink::new(io::writer(rt));
-    run_once::<_, _, Brand>(alloc, &words, &mut source, &mut sink, Blank::new(1))
+    let mut clock = SystemClock::new(rt);
+    let blank = Blank::new(1);
+    run_once::<_, _, _, Brand>(alloc, &words, &mut source, &mut sink, &mut clock, blank)
 }
 
 fn main(rt: HostRuntime) -> io::Result<ExitCode> {

@@ -8,3 +8,4 @@ pub mod Exchanges
 pub mod Sessions
 pub mod Refusing
 pub mod Steps
+pub mod Alone

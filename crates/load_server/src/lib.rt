@@ -18,11 +18,13 @@ mod select;
 mod sent;
 mod session_end;
 mod sessions;
+mod solo;
 mod statement;
 mod submit;
 
 pub use session_end::SessionEnd;
 pub use sessions::{MAX_REQUESTS, session};
+pub use solo::Solo;
 
 #[cfg(test)]
 mod tests;

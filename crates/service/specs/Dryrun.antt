@@ -59,19 +59,15 @@ exit_by_word None later = later
 abbrev pub exit_of_columns : Model → List (List ℕ) → List ℕ → Exit
 exit_of_columns m columns body = exit_by_word (bad_word m first_column [] columns) (exit_of_body (shape_of m columns) body)
 
--- how words and a body end the run, where no device fails and memory is ample
-abbrev pub exit_of_form : Option Form → List ℕ → Exit
-exit_of_form None body = exit.Usage
-exit_of_form (Some (form.Dryrun letter columns)) body = exit_of_columns (model_of letter) columns body
+-- this holds of the model and the columns of a `dryrun`
+abbrev pub IfDryrun : Option Form → (Model → List (List ℕ) → Type 0) → Type 0
+IfDryrun (Some (form.Dryrun letter columns)) P = P (model_of letter) columns
+IfDryrun _ P = Unit {0}
 
--- what the words write for a body
-abbrev pub text_of_form : Option Form → List ℕ → List ℕ
-text_of_form None body = []
-text_of_form (Some (form.Dryrun letter columns)) body = fold_text (shape_of (model_of letter) columns) body
-
--- the first word at fault of a form
-abbrev pub bad_word_of : Form → Option ℕ
-bad_word_of (form.Dryrun letter columns) = bad_word (model_of letter) first_column [] columns
+-- the word is the first at fault of a `dryrun`; no other form has one
+abbrev pub NamesWord : Option Form → ℕ → Type 0
+NamesWord (Some (form.Dryrun letter columns)) word = bad_word (model_of letter) first_column [] columns ≡ Some word
+NamesWord _ word = ⊥
 
 -- an exit where this one is due: it, or a device failed, or memory was short; a write can fail only where all was to be
 -- written
@@ -81,9 +77,11 @@ Judges due exit.NoMemory = Unit {0}
 Judges due exit.WriteFault = due ≡ exit.Ok
 Judges due exit.Ok = due ≡ exit.Ok
 Judges due exit.Usage = due ≡ exit.Usage
+Judges due (exit.Refused at) = due ≡ exit.Refused at
 Judges due (exit.BadDef word) = due ≡ exit.BadDef word
 Judges due (exit.TooManyFiltered line) = due ≡ exit.TooManyFiltered line
 Judges due (exit.TooBig limit) = due ≡ exit.TooBig limit
+Judges due exit.Enough = due ≡ exit.Enough
 
 -- an exit where no device failed
 abbrev pub EndsBy : Exit → Exit → Type 0
@@ -94,6 +92,8 @@ abbrev pub IsOfInput : Exit → Type 0
 IsOfInput exit.Ok = ⊥
 IsOfInput exit.Usage = ⊥
 IsOfInput exit.WriteFault = ⊥
+IsOfInput exit.Enough = ⊥
+IsOfInput (exit.Refused at) = ⊥
 IsOfInput (exit.BadDef word) = ⊥
 IsOfInput exit.ReadFault = Unit {0}
 IsOfInput exit.NoMemory = Unit {0}

@@ -5,13 +5,16 @@ ghost use Rattle.dl_outside.specs.Faults.{HasRisen};
 ghost use Rattle.dl_outside.specs.Writing.{AppendsFront};
 ghost use Rattle.service.specs.Columns.{bad_word, first_column, shape_of};
 ghost use Rattle.command_words.specs.Words.{form_of as form_of_words};
-ghost use Rattle.service.specs.Dryrun.{EndsBy, Judges, bad_word_of, exit_of_columns, exit_of_form, fold_text, text_of_form};
+ghost use Rattle.service.specs.Dryrun.{EndsBy, IfDryrun, Judges, NamesWord, exit_of_columns, fold_text};
+ghost use Rattle.service.specs.Serving.{AnsweredAll, IfRun, RanTo, RunDid};
 
 use crate::Exit;
 use crate::columns::{model_of, read_shape};
 use crate::dryrun::folded_input;
 use command_words::{Form, FormError, form_of};
-use dl_outside::{Sink, Source, Steps, write_all};
+use crate::serving::exit_of;
+use dl_outside::{Clock, Sink, Source, Steps, write_all};
+use load_server::{Solo, session};
 use schema_models::Model;
 use std::alloc::Global;
 use std::sync::ledger::Ledger;
@@ -52,44 +55,71 @@ fn dryrun<S: Source, K: Sink>(
     }
 }
 
+// The command `run`.
+fn serve<S: Source, K: Sink, C: Clock, L: Ledger>(
+    alloc: Global,
+    source: &mut S,
+    sink: &mut K,
+    clock: &mut C,
+    steps: &mut Steps<L>,
+) -> Exit
+    ensures served { RanTo result (RunDid (S.left source.old) (K.written sink.old) (K.written sink.new) (C.given clock.old) (C.given clock.new)) }
+    ensures read_fault { result ≡ Exit.ReadFault → HasRisen (S.faults source.old) (S.faults source.new) }
+    ensures write_fault { result ≡ Exit.WriteFault → HasRisen (K.faults sink.old) (K.faults sink.new) }
+    ensures later { S.faults source.old ≤ S.faults source.new }
+    ensures later_sink { K.faults sink.old ≤ K.faults sink.new }
+{
+    let mut turns = Solo::new(alloc);
+    exit_of(session(alloc, &mut turns, source, sink, clock, steps))
+}
+
 /// Runs the command that the words name, reading the source and writing the sink. The words are those behind the
-/// program's name. Reads nothing where the words are refused, and writes nothing until all is read and judged.
+/// program's name. Reads and writes nothing where the words are refused.
 ///
 /// `dryrun MODEL COLUMN ..` folds a body whose fields end by tabs, in strict mode, by the model `A`, `D` or `U` (Apache
-/// Doris documentation, "Data Models"), and writes one row for each key, or in the Duplicate model each row, in order.
-pub fn run<S: Source, K: Sink, L: Ledger>(
+/// Doris documentation, "Data Models"), and writes one row for each key, or in the Duplicate model each row, in order. It
+/// writes nothing until all is read and judged.
+///
+/// `run` answers the HTTP requests of the source, one after another, from an empty service on.
+pub fn run<S: Source, K: Sink, C: Clock, L: Ledger>(
     alloc: Global,
     words: &[String],
     source: &mut S,
     sink: &mut K,
+    clock: &mut C,
     steps: &mut Steps<L>,
 ) -> Exit
-    // What is written: on success the text of the fold, and a front of it where a write failed.
-    ensures ok { result ≡ Exit.Ok → IfSome (S.left source.old) (λ body. Appends (K.written sink.old) (K.written sink.new) (text_of_form (form_of_words (map string_bytes words.now)) body)) }
-    ensures cut { result ≡ Exit.WriteFault → IfSome (S.left source.old) (λ body. AppendsFront (K.written sink.old) (K.written sink.new) (text_of_form (form_of_words (map string_bytes words.now)) body)) }
-    ensures nothing { result ≢ Exit.Ok → result ≢ Exit.WriteFault → Keeps (K.written sink.old) (K.written sink.new) }
-    ensures read { result ≡ Exit.Ok → IsAtEnd (S.left source.new) }
+    // One legal history: what `run` did.
+    ensures served { IfRun (form_of_words (map string_bytes words.now)) (RanTo result (RunDid (S.left source.old) (K.written sink.old) (K.written sink.new) (C.given clock.old) (C.given clock.new))) }
+
+    // What `dryrun` writes: on success the text of the fold, and a front of it where a write failed.
+    ensures ok { IfDryrun (form_of_words (map string_bytes words.now)) (λ model columns. result ≡ Exit.Ok → IfSome (S.left source.old) (λ body. Appends (K.written sink.old) (K.written sink.new) (fold_text (shape_of model columns) body))) }
+    ensures cut { IfDryrun (form_of_words (map string_bytes words.now)) (λ model columns. result ≡ Exit.WriteFault → IfSome (S.left source.old) (λ body. AppendsFront (K.written sink.old) (K.written sink.new) (fold_text (shape_of model columns) body))) }
+    ensures nothing { IfDryrun (form_of_words (map string_bytes words.now)) (λ _ _. result ≢ Exit.Ok → result ≢ Exit.WriteFault → Keeps (K.written sink.old) (K.written sink.new)) }
+    ensures read { IfDryrun (form_of_words (map string_bytes words.now)) (λ _ _. result ≡ Exit.Ok → IsAtEnd (S.left source.new)) }
 
     // When each answer comes.
     ensures usage { result ≡ Exit.Usage → form_of_words (map string_bytes words.now) ≡ None }
-    ensures no_form { form_of_words (map string_bytes words.now) ≡ None → EndsBy Exit.Usage result }
-    ensures bad_def { (word : ℕ) → result ≡ Exit.BadDef word → IfSome (form_of_words (map string_bytes words.now)) (λ form. bad_word_of form ≡ Some word) }
-    ensures bad_words { IfSome (form_of_words (map string_bytes words.now)) (λ form. IfSome (bad_word_of form) (λ word. EndsBy (Exit.BadDef word) result)) }
+    ensures no_form { form_of_words (map string_bytes words.now) ≡ None → EndsBy Exit.Usage result × Keeps (S.left source.old) (S.left source.new) × Keeps (K.written sink.old) (K.written sink.new) }
+    ensures bad_def { (word : ℕ) → result ≡ Exit.BadDef word → NamesWord (form_of_words (map string_bytes words.now)) word }
+    ensures bad_words { IfDryrun (form_of_words (map string_bytes words.now)) (λ model columns. IfSome (bad_word model first_column [] columns) (λ word. EndsBy (Exit.BadDef word) result)) }
     ensures read_fault { result ≡ Exit.ReadFault → HasRisen (S.faults source.old) (S.faults source.new) }
     ensures write_fault { result ≡ Exit.WriteFault → HasRisen (K.faults sink.old) (K.faults sink.new) }
-    ensures judged { IfSome (S.left source.old) (λ body. Judges (exit_of_form (form_of_words (map string_bytes words.now)) body) result) }
+    ensures judged { IfDryrun (form_of_words (map string_bytes words.now)) (λ model columns. IfSome (S.left source.old) (λ body. Judges (exit_of_columns model columns body) result)) }
 
     // An honest run is answered: where no device fails, by what the words and the body ask for, or by want of memory.
-    ensures complete { (HasRisen (S.faults source.old) (S.faults source.new) → ⊥) → (HasRisen (K.faults sink.old) (K.faults sink.new) → ⊥) → IfSome (S.left source.old) (λ body. EndsBy (exit_of_form (form_of_words (map string_bytes words.now)) body) result) }
+    ensures complete { (HasRisen (S.faults source.old) (S.faults source.new) → ⊥) → (HasRisen (K.faults sink.old) (K.faults sink.new) → ⊥) → IfDryrun (form_of_words (map string_bytes words.now)) (λ model columns. IfSome (S.left source.old) (λ body. EndsBy (exit_of_columns model columns body) result)) }
+    ensures answered { (HasRisen (S.faults source.old) (S.faults source.new) → ⊥) → (HasRisen (K.faults sink.old) (K.faults sink.new) → ⊥) → IfRun (form_of_words (map string_bytes words.now)) (AnsweredAll result) }
 
     ensures later { S.faults source.old ≤ S.faults source.new }
     ensures later_sink { K.faults sink.old ≤ K.faults sink.new }
-    ensures quiet { steps.new ≡ steps.old }
+    ensures quiet { IfDryrun (form_of_words (map string_bytes words.now)) (λ _ _. steps.new ≡ steps.old) }
 {
     match form_of(alloc, words) {
         Ok(Form::Dryrun { model, columns }) => {
             dryrun(alloc, model_of(model), columns.as_slice(), source, sink)
         }
+        Ok(Form::Run { journal: _journal }) => serve(alloc, source, sink, clock, steps),
         Err(FormError::Usage) => Exit::Usage,
         Err(FormError::NoMemory) => Exit::NoMemory,
     }

@@ -15,6 +15,8 @@ pub enum Exit {
     ReadFault,
     /// A write failed.
     WriteFault,
+    /// The request at that offset of the input cannot be read, and was answered so.
+    Refused { at: u64 },
     /// There was not enough memory.
     NoMemory,
     /// That word, the command being word 1, is the first that is no column of the table.
@@ -23,6 +25,8 @@ pub enum Exit {
     TooManyFiltered { line: u64 },
     /// There are more bytes or records than this.
     TooBig { limit: u64 },
+    /// As many requests were answered as one run answers at most.
+    Enough,
 }
 
 impl Exit {
@@ -35,10 +39,12 @@ impl Exit {
             Exit::Usage => 2,
             Exit::ReadFault => 3,
             Exit::WriteFault => 4,
+            Exit::Refused { .. } => 7,
             Exit::NoMemory => 8,
             Exit::BadDef { .. } => 9,
             Exit::TooManyFiltered { .. } => 10,
             Exit::TooBig { .. } => 12,
+            Exit::Enough => 13,
         }
     }
 }

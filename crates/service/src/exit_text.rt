@@ -28,10 +28,12 @@ fn add_name(out: &mut String, exit: Exit) -> Result<(), NoMemory>
         Exit::Ok | Exit::Usage => Ok(()),
         Exit::ReadFault => Ok(out.push_str("ReadFault")?),
         Exit::WriteFault => Ok(out.push_str("WriteFault")?),
+        Exit::Refused { at } => add_field(out, "Refused at=", at),
         Exit::NoMemory => Ok(out.push_str("NoMemory")?),
         Exit::BadDef { word } => add_field(out, "BadDef word=", word),
         Exit::TooManyFiltered { line } => add_field(out, "TooManyFiltered line=", line),
         Exit::TooBig { limit } => add_field(out, "TooBig limit=", limit),
+        Exit::Enough => Ok(out.push_str("Enough")?),
     }
 }
 

@@ -7,10 +7,14 @@ mod dryrun;
 mod exit;
 mod exit_text;
 mod rows_text;
+mod serving;
 mod type_words;
 
 pub use command::run;
 pub use exit::Exit;
+
+#[cfg(test)]
+mod run_tests;
 
 #[cfg(test)]
 mod tests;

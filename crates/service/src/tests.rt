@@ -2,7 +2,7 @@
 ghost use Rattle.std.specs.Prelude.{◌≡◌, ◌<◌};
 
 use crate::{Exit, run};
-use dl_outside::{MemorySink, MemorySource, Steps};
+use dl_outside::{ListClock, MemorySink, MemorySource, Steps};
 use dl_values::NoMemory;
 use std::alloc::Global;
 use std::marker::Brand;
@@ -34,7 +34,8 @@ pub fn answer<L: Ledger>(
     let mut source = MemorySource::new(Vec::from_slice(alloc, body)?, 3, Vec::new(alloc));
     let mut sink = MemorySink::new(Vec::new(alloc), Vec::new(alloc));
     let mut steps: Steps<L> = Steps::new(blank);
-    let exit = run(alloc, &words, &mut source, &mut sink, &mut steps);
+    let mut clock = ListClock::new(Vec::new(alloc));
+    let exit = run(alloc, &words, &mut source, &mut sink, &mut clock, &mut steps);
     Ok((exit, Vec::from_slice(alloc, sink.bytes())?))
 }
 
@@ -54,7 +55,8 @@ fn answer_with_faults<L: Ledger>(
     let mut source = MemorySource::new(body, 4, Vec::from_slice(alloc, reads)?);
     let mut sink = MemorySink::new(Vec::new(alloc), Vec::from_slice(alloc, writes)?);
     let mut steps: Steps<L> = Steps::new(blank);
-    let exit = run(alloc, &words, &mut source, &mut sink, &mut steps);
+    let mut clock = ListClock::new(Vec::new(alloc));
+    let exit = run(alloc, &words, &mut source, &mut sink, &mut clock, &mut steps);
     Ok((exit, sink.bytes().len()))
 }
 

@@ -1,0 +1,38 @@
+// The core by itself.
+ghost use Rattle.std.specs.Prelude.{◌≡◌, []};
+ghost use Rattle.load_server.specs.Alone.{IsAlone};
+
+use dl_outside::Steps;
+use front_core::Front;
+use front_defs::{Command, Reply, Turns};
+use std::alloc::Global;
+use std::sync::ledger::Ledger;
+
+/// A core that no others share: every command is a turn of its own.
+#[derive(Drop)]
+pub struct Solo {
+    pub front: Front,
+}
+
+impl Solo {
+    /// A new core, which has seen nothing.
+    pub fn new(alloc: Global) -> Solo
+        ensures { IsAlone result.front [] [] }
+    {
+        Solo {
+            front: Front::new(alloc),
+        }
+    }
+}
+
+impl Turns for Solo {
+    ghost use Rattle.load_server.specs.Alone.{IsAlone};
+
+    ghost stands = { λ s seen own. IsAlone s.front seen own };
+
+    ghost may = { λ s command. Unit {0} };
+
+    fn turn<L: Ledger>(&mut self, command: Command, steps: &mut Steps<L>) -> Reply {
+        self.front.step(command, steps)
+    }
+}
