@@ -15,9 +15,7 @@ pub use exit::Exit;
 
 #[cfg(test)]
 mod run_tests;
-
 #[cfg(test)]
 mod tests;
-
 #[cfg(test)]
 mod type_tests;

@@ -35,7 +35,14 @@ pub fn answer<L: Ledger>(
     let mut sink = MemorySink::new(Vec::new(alloc), Vec::new(alloc));
     let mut steps: Steps<L> = Steps::new(blank);
     let mut clock = ListClock::new(Vec::new(alloc));
-    let exit = run(alloc, &words, &mut source, &mut sink, &mut clock, &mut steps);
+    let exit = run(
+        alloc,
+        &words,
+        &mut source,
+        &mut sink,
+        &mut clock,
+        &mut steps,
+    );
     Ok((exit, Vec::from_slice(alloc, sink.bytes())?))
 }
 
@@ -56,7 +63,14 @@ fn answer_with_faults<L: Ledger>(
     let mut sink = MemorySink::new(Vec::new(alloc), Vec::from_slice(alloc, writes)?);
     let mut steps: Steps<L> = Steps::new(blank);
     let mut clock = ListClock::new(Vec::new(alloc));
-    let exit = run(alloc, &words, &mut source, &mut sink, &mut clock, &mut steps);
+    let exit = run(
+        alloc,
+        &words,
+        &mut source,
+        &mut sink,
+        &mut clock,
+        &mut steps,
+    );
     Ok((exit, sink.bytes().len()))
 }
 
@@ -101,7 +115,7 @@ fn bodies_are_folded_or_refused(rt: HostRuntime) -> Result<(), Fail> {
 
 #[test]
 fn words_are_judged_in_order(rt: HostRuntime) -> Result<(), Fail> {
-    let table: [(&[&str], Exit); 19] = [
+    let table: [(&[&str], Exit); 20] = [
         (&[], Exit::Usage),
         (&["dryrun"], Exit::Usage),
         (&["dryrun", "A"], Exit::Usage),
@@ -109,7 +123,8 @@ fn words_are_judged_in_order(rt: HostRuntime) -> Result<(), Fail> {
         (&["dryrun", "d", "k:INT:KEY"], Exit::Usage),
         (&["dryrun", "D", "k:INT:KEY"], Exit::Ok),
         (&["Dryrun", "A", "k:INT:KEY"], Exit::Usage),
-        (&["run"], Exit::Usage),
+        (&["run"], Exit::Ok),
+        (&["run", "journal.db"], Exit::Usage),
         (&["dryrun", "A", "k:INT:KEY", "help"], Exit::Usage),
         (&["dryrun", "A", "k:INT:KEY", "--"], Exit::Usage),
         (&["-v", "dryrun", "A", "k:INT:KEY"], Exit::Usage),
