@@ -26,6 +26,9 @@ pub const UNKNOWN_TABLE: &[u8] =
 pub const CREATE: &[u8] =
     b"POST /api/query/internal/d HTTP/1.1\r\nContent-Length: 29\r\n\r\n{\"stmt\":\"CREATE DATABASE d;\"}";
 
+pub const CREATE_TABLE: &[u8] =
+    b"POST /api/query/internal/d HTTP/1.1\r\nContent-Length: 90\r\n\r\n{\"stmt\":\"CREATE TABLE t (k INT, v INT) DUPLICATE KEY(k) DISTRIBUTED BY HASH(k) BUCKETS 1\"}";
+
 pub const SELECT: &[u8] =
     b"POST /api/query/internal/d HTTP/1.1\r\nContent-Length: 26\r\n\r\n{\"stmt\":\"SELECT * FROM t\"}";
 
