@@ -3,3 +3,4 @@ pub mod Dryruns
 pub mod Forms
 pub mod ReadShapes
 pub mod Scans
+pub mod Serves
