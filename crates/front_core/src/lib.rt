@@ -14,3 +14,6 @@ mod transactions;
 
 pub use front::Front;
 pub use front_laws::laws;
+
+#[cfg(test)]
+mod tests;
