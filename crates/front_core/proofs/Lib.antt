@@ -6,3 +6,4 @@ pub mod Going
 pub mod Loads
 pub mod Opens
 pub mod Rows
+pub mod Halves

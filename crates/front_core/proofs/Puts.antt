@@ -22,7 +22,7 @@ pub record IsFirst (id i : ℕ) (d : Kept) (ks : List Kept) : Type 0 where
 pub first_by : (id i : ℕ) (d : Kept) (ks : List Kept) → Some i ≡ position (λ (k : Kept). nat_eq k.id id) ks → IsFirst id i d ks
 first_by id i d ks e = let h = position-Some (λ (k : Kept). nat_eq k.id id) ks i d (sym e) in record { within = h.0; hit = h.1 }
 
-each_index : (P : Kept → Type 0) (ks : List Kept) (i : ℕ) (d : Kept) → i < length ks → Each P ks → P (get_or ks i d)
+pub each_index : (P : Kept → Type 0) (ks : List Kept) (i : ℕ) (d : Kept) → i < length ks → Each P ks → P (get_or ks i d)
 each_index P [] i d lt e = absurd (omega arith)
 each_index P (k ∷ ks) zero d lt e = e.0
 each_index P (k ∷ ks) (suc i) d lt e = each_index P ks i d (omega arith) e.1

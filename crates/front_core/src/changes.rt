@@ -5,8 +5,8 @@ ghost use Rattle.front_core.specs.Parts as parts;
 ghost use Rattle.front_core.specs.Parts.{ended_at, given, submitted_at};
 ghost use Rattle.front_core.specs.Seen.{folded_in, rows_in, seen, waits, Ascending, Below};
 
+use crate::finds::place_of;
 use crate::kept::{Held, Kept};
-use crate::scans::place_of;
 use front_defs::Placed;
 use labels::TxnState;
 

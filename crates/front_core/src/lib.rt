@@ -4,6 +4,7 @@
 mod catalogue;
 mod changes;
 mod defined;
+mod finds;
 mod fitting;
 mod front;
 mod kept;

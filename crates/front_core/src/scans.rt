@@ -1,48 +1,14 @@
 // Finding transactions by going through all of them.
-ghost use Rattle.std.specs.Prelude.{◌≡◌, ◌&&◌, not, find, map, position, nat_eq, nat_lt, reverse, IfSome};
+ghost use Rattle.std.specs.Prelude.{◌≡◌, ◌&&◌, not, find, map, nat_lt, reverse, IfSome};
 ghost use Rattle.std.specs.List.{list_any};
 ghost use Rattle.std.specs.Option.{option_copied, option_map};
 ghost use Rattle.front_defs.specs.Names.{same};
 ghost use Rattle.front_defs.specs.Transactions as defs;
-ghost use Rattle.front_defs.specs.declared.command.TxnKey.TheVariants as key;
 ghost use Rattle.front_core.specs.Seen.{seen, WaitsAs};
 
 use crate::kept::Kept;
 use dl_values::Name;
 use labels::TxnState;
-
-fn first_of_id(kept: &[Kept], id: u64) -> Option<&Kept>
-    ensures { option_copied result ≡ find (λ k. nat_eq k.id id) kept.now }
-{
-    kept.iter().find(|k| k.id == id)
-}
-
-// The transaction of a number.
-pub fn txn_at(kept: &[Kept], id: u64) -> Option<&Kept>
-    ensures { option_map seen (option_copied result) ≡ defs.txn_at id (map seen kept.now) }
-{
-    first_of_id(kept, id)
-}
-
-// The place of the transaction of a number.
-pub fn place_of(kept: &[Kept], id: u64) -> Option<usize>
-    ensures { result ≡ position (λ k. nat_eq k.id id) kept.now }
-{
-    kept.iter().position(|k| k.id == id)
-}
-
-fn first_of_db<'a>(kept: &'a [Kept], db: &Name, id: u64) -> Option<&'a Kept>
-    ensures { option_copied result ≡ find (λ k. nat_eq k.id id && same k.db db.now) kept.now }
-{
-    kept.iter().find(|k| k.id == id && k.db == *db)
-}
-
-// The transaction of a number, where it is of the database.
-pub fn txn_of_db<'a>(kept: &'a [Kept], db: &Name, id: u64) -> Option<&'a Kept>
-    ensures { option_map seen (option_copied result) ≡ defs.txn_by db.now (key.Id id) (map seen kept.now) }
-{
-    first_of_db(kept, db, id)
-}
 
 fn last_of_label<'a>(kept: &'a [Kept], db: &Name, label: &Name) -> Option<&'a Kept>
     ensures { option_copied result ≡ find (λ k. same k.db db.now && same k.label label.now) (reverse kept.now) }

@@ -11,7 +11,7 @@ ghost use Rattle.front_core.specs.Parts.{Takes, begun, ended, range_for, submitt
 ghost use Rattle.front_core.specs.Seen.{folded_in, rows_in, seen, waits};
 
 use crate::kept::{Held, Kept};
-use crate::{changes, scans};
+use crate::{changes, finds, scans};
 use dl_values::{Name, NoMemory};
 use front_defs::{Placed, Reply, TxnKey};
 use labels::TxnState;
@@ -140,7 +140,7 @@ impl Transactions {
         ensures { option_map seen (option_copied result) ≡ txn_by db.now key.now self.now.txns }
     {
         match key {
-            TxnKey::Id(id) => scans::txn_of_db(&self.kept, db, *id),
+            TxnKey::Id(id) => finds::txn_of_db(&self.kept, db, *id),
             TxnKey::Label(label) => scans::label_of(&self.kept, db, label),
         }
     }
@@ -183,7 +183,7 @@ impl Transactions {
         ensures kept { outcome result ≡ Refused → self.new ≡ self.old }
         ensures works { outcome result ≡ Faulted → ⊥ }
     {
-        let two_phase = match scans::txn_at(&self.kept, id) {
+        let two_phase = match finds::txn_at(&self.kept, id) {
             None => return Reply::NoSuchTxn,
             Some(txn) => match submit_refusal(txn, at) {
                 Some(refusal) => return refusal,

@@ -1,0 +1,98 @@
+-- What halving a list with ascending numbers finds is the first of its number, and the only one.
+use Rattle.std.proofs.Common.{◌≡◌, ℕ, zero, suc, ◌+◌, ◌≤◌, ◌<◌, Bool, true, false, cond, ◌&&◌, List, [], ◌∷◌, length, get_or, Option, Some, None, Result, Ok, Err, map, find, refl, sym, ◌∙◌, ap, arith, position, nat_eq}
+use Rattle.std.proofs.lemmas.Bool.Decides.{nat_tests}
+use Rattle.std.proofs.lemmas.Cmp.{ranked}
+use Rattle.std.proofs.lemmas.Iterator.Adapters.{position_from-zero}
+use Rattle.std.proofs.lemmas.List.Quantifiers.{position-Some}
+use Rattle.std.specs.Prelude.{nat_lt, MatchResult}
+use Rattle.std.specs.List.{position_from}
+use Rattle.std.specs.List.Sorted.{IsBinarySearchResult, IsSearchInRange}
+use Rattle.std.specs.Ordering.{nat_cmp, ordering_index}
+use Rattle.std.specs.Option.{option_map}
+use Rattle.front_defs.specs.Names.{same}
+use Rattle.front_defs.specs.declared.txn.Txn.{Txn}
+use Rattle.front_laws.specs.Tidy.{Each}
+use Rattle.front_laws.proofs.Lists.{each_imp, eq_is}
+use Rattle.front_core.specs.declared.kept.Kept.{Kept}
+use Rattle.front_core.specs.Seen.{Ascending, seen}
+use Rattle.front_core.proofs.Puts.{each_index}
+
+higher : (a b x : ℕ) → a ≤ b → ordering_index (nat_cmp a x) ≤ ordering_index (nat_cmp b x)
+higher a b x le = grind (arith, nat_tests)
+
+rises : (ks : List Kept) (i j : ℕ) (d : Kept) → Ascending ks → i ≤ j → j < length ks → (get_or ks i d).id ≤ (get_or ks j d).id
+rises [] i j d a le lt = absurd (omega arith)
+rises (k ∷ ks) zero zero d a le lt = omega arith
+rises (k ∷ ks) zero (suc j) d a le lt = let h = each_index (λ (v : Kept). k.id < v.id) ks j d (omega arith) a.0 in omega (arith, h)
+rises (k ∷ ks) (suc i) zero d a le lt = absurd (omega arith)
+rises (k ∷ ks) (suc i) (suc j) d a le lt = rises ks i j d a.1 (omega arith) (omega arith)
+
+found_from : (id n i : ℕ) (d : Kept) (ks : List Kept) → Ascending ks → i < length ks → (get_or ks i d).id ≡ id → Some (n + i) ≡ position_from (λ (k : Kept). nat_eq k.id id) n ks
+found_from id n i d [] a lt e = absurd (omega arith)
+found_from id n zero d (k ∷ ks) a lt e =
+    let hit : nat_eq k.id id ≡ true = grind (arith, nat_tests) in
+    let z : n + 0 ≡ n = omega arith in
+    rw hit (ap (λ (m : ℕ). Some m) z)
+found_from id n (suc i) d (k ∷ ks) a lt e =
+    let h = each_index (λ (v : Kept). k.id < v.id) ks i d (omega arith) a.0 in
+    let off : nat_eq k.id id ≡ false = grind (arith, nat_tests) in
+    let z : n + suc i ≡ (n + 1) + i = omega arith in
+    rw off (ap (λ (m : ℕ). Some m) z ∙ found_from id (n + 1) i d ks a.1 (omega arith) e)
+
+none_from : (id n : ℕ) (ks : List Kept) → ((k : ℕ) (d : Kept) → k < length ks → nat_eq (get_or ks k d).id id ≡ false) → None ≡ position_from (λ (k : Kept). nat_eq k.id id) n ks
+none_from id n [] h = refl
+none_from id n (k ∷ ks) h = rw (h 0 k (omega arith)) (none_from id (n + 1) ks (λ i d lt. h (suc i) d (omega (arith, lt))))
+
+apart_by : (n id k i : ℕ) (b : Bool) → nat_lt k i ≡ b → (k < i → n < id) → (i ≤ k → id < n) → nat_eq n id ≡ false
+apart_by n id k i true e below above = let l : k < i = grind (arith, nat_tests) in let h = below l in grind (arith, nat_tests)
+apart_by n id k i false e below above = let l : i ≤ k = grind (arith, nat_tests) in let h = above l in grind (arith, nat_tests)
+
+-- what a binary search answers is the first place
+pub halved : (id : ℕ) (ks : List Kept) (r : Result ℕ ℕ) → Ascending ks → IsSearchInRange r (length ks) → IsBinarySearchResult (λ (y : Kept). nat_cmp y.id id) ks r → MatchResult r (λ i. Some i ≡ position (λ (k : Kept). nat_eq k.id id) ks) (λ i. None ≡ position (λ (k : Kept). nat_eq k.id id) ks)
+halved id [] (Ok i) a lt h = absurd (omega arith)
+halved id (k ∷ ks) (Ok i) a lt h = let z : i ≡ 0 + i = omega arith in ap (λ (m : ℕ). Some m) z ∙ found_from id 0 i k (k ∷ ks) a lt (ranked _ id _ (sym (h k))) ∙ sym (position_from-zero (λ (k : Kept). nat_eq k.id id) (k ∷ ks))
+halved id ks (Err i) a le h =
+    let parted = h (λ m j d l lt. higher (get_or ks m d).id (get_or ks j d).id id (rises ks m j d a l lt)) in
+    none_from id 0 ks (λ k d lt. apart_by (get_or ks k d).id id k i (nat_lt k i) refl (λ l. ranked _ id _ (sym (parted.0 k d (omega arith) l))) (λ l. ranked _ id _ (sym (parted.1 k d l lt)))) ∙ sym (position_from-zero (λ (k : Kept). nat_eq k.id id) ks)
+
+-- what stands at the first place is found
+found_at : (p : Kept → Bool) (d : Kept) (ks : List Kept) (i : ℕ) → i < length ks → p (get_or ks i d) ≡ true → ((k : ℕ) → k < i → p (get_or ks k d) ≡ false) → Some (get_or ks i d) ≡ find p ks
+found_at p d [] i lt hit miss = absurd (omega arith)
+found_at p d (k ∷ ks) zero lt hit miss = rw hit refl
+found_at p d (k ∷ ks) (suc i) lt hit miss = rw (miss 0 (omega arith)) (found_at p d ks i (omega arith) hit (λ j h. miss (suc j) (omega (arith, h))))
+
+pub find_at : (p : Kept → Bool) (ks : List Kept) (i : ℕ) (d : Kept) → Some i ≡ position p ks → d ≡ get_or ks i d → Some d ≡ find p ks
+find_at p ks i d e at = let h = position-Some p ks i d (sym e) in ap (λ (x : Kept). Some x) at ∙ found_at p d ks i h.0 h.1 h.2
+
+none_step : (b : Bool) (n : ℕ) (r : Option ℕ) (x : Kept) (q : Option Kept) → cond b (Some n) r ≡ None → (r ≡ None → q ≡ None) → cond b (Some x) q ≡ None
+none_step true n r x q e h = absurd (cc)
+none_step false n r x q e h = h e
+
+none_found : (p : Kept → Bool) (n : ℕ) (ks : List Kept) → position_from p n ks ≡ None → find p ks ≡ None
+none_found p n [] e = refl
+none_found p n (k ∷ ks) e = none_step (p k) n (position_from p (n + 1) ks) k (find p ks) e (none_found p (n + 1) ks)
+
+pub find_none : (p : Kept → Bool) (ks : List Kept) → None ≡ position p ks → None ≡ find p ks
+find_none p ks e = sym (none_found p 0 ks (sym (position_from-zero p ks) ∙ sym e))
+
+-- of a database too
+db_none_step : (b h : Bool) (t : Txn) (u : Kept) (a : Option Kept) (q : Option Txn) → None ≡ cond b (Some u) a → (None ≡ a → None ≡ q) → None ≡ cond (b && h) (Some t) q
+db_none_step true h t u a q e k = absurd (cc)
+db_none_step false h t u a q e k = k e
+
+pub db_none : (id : ℕ) (db : List ℕ) (ks : List Kept) → None ≡ find (λ (k : Kept). nat_eq k.id id) ks → None ≡ find (λ (t : Txn). nat_eq t.id id && same t.db db) (map seen ks)
+db_none id db [] e = refl
+db_none id db (k ∷ ks) e = db_none_step (nat_eq k.id id) (same k.db db) (seen k) k (find (λ (k : Kept). nat_eq k.id id) ks) (find (λ (t : Txn). nat_eq t.id id && same t.db db) (map seen ks)) e (db_none id db ks)
+
+later_none : (id : ℕ) (db : List ℕ) (ks : List Kept) → Each (λ (k : Kept). id < k.id) ks → None ≡ find (λ (t : Txn). nat_eq t.id id && same t.db db) (map seen ks)
+later_none id db [] e = refl
+later_none id db (k ∷ ks) e = let h = e.0 in let off : nat_eq k.id id ≡ false = grind (arith, nat_tests) in rw off (later_none id db ks e.1)
+
+db_step : (id : ℕ) (db : List ℕ) (u k : Kept) (ks : List Kept) (b h : Bool) → nat_eq u.id id ≡ b → same k.db db ≡ h → Each (λ (x : Kept). u.id < x.id) ks → Some k ≡ cond b (Some u) (find (λ (k : Kept). nat_eq k.id id) ks) → (Some k ≡ find (λ (k : Kept). nat_eq k.id id) ks → cond h (Some (seen k)) None ≡ find (λ (t : Txn). nat_eq t.id id && same t.db db) (map seen ks)) → cond h (Some (seen k)) None ≡ cond (b && same u.db db) (Some (seen u)) (find (λ (t : Txn). nat_eq t.id id && same t.db db) (map seen ks))
+db_step id db u k ks true true e s a f more = let i : k ≡ u = cc in let t : same u.db db ≡ true = ap (λ (x : Kept). same x.db db) (sym i) ∙ s in rw t (ap (λ (x : Kept). Some (seen x)) i)
+db_step id db u k ks true false e s a f more = let i : k ≡ u = cc in let t : same u.db db ≡ false = ap (λ (x : Kept). same x.db db) (sym i) ∙ s in let z = eq_is u.id id e in rw t (later_none id db ks (each_imp (λ (x : Kept). u.id < x.id) (λ (x : Kept). id < x.id) (λ x h. omega (arith, z, h)) ks a))
+db_step id db u k ks false h e s a f more = more f
+
+pub db_some : (id : ℕ) (db : List ℕ) (ks : List Kept) (k : Kept) (h : Bool) → Ascending ks → Some k ≡ find (λ (k : Kept). nat_eq k.id id) ks → same k.db db ≡ h → cond h (Some (seen k)) None ≡ find (λ (t : Txn). nat_eq t.id id && same t.db db) (map seen ks)
+db_some id db [] k h a f s = absurd (cc)
+db_some id db (u ∷ us) k h a f s = db_step id db u k us (nat_eq u.id id) h refl s a.0 f (λ g. db_some id db us k h a.1 g s)
