@@ -21,7 +21,7 @@ fn a_request_that_is_cut_at_a_byte_is_refused_and_begins_nothing(
     rt: HostRuntime,
 ) -> Result<(), Fail> {
     let alloc = rt.alloc();
-    let head = LOAD.len() - 12;
+    let head = LOAD.len().saturating_sub(12);
     for length in 1..LOAD.len() {
         let run = ran(alloc, &LOAD[..length], loads(alloc)?, &[])?;
         assert_eq!(rt; run.end, SessionEnd::Refused { at: 0 });

@@ -44,8 +44,7 @@ fn load_replies(alloc: Global, txn: u64, further: Vec<Reply>) -> Result<Vec<Repl
     Ok(replies)
 }
 
-fn submitted(ahead: u64) -> Reply {
-    let place = 1 + ahead;
+fn submitted(place: u64, ahead: u64) -> Reply {
     Reply::Submitted {
         placed: Some(Placed { place, ahead }),
     }
@@ -78,7 +77,7 @@ fn snapshot(alloc: Global) -> Result<Reply, NoMemory> {
 #[test]
 fn a_load_is_begun_submitted_and_published(rt: HostRuntime) -> Result<(), Fail> {
     let alloc = rt.alloc();
-    let further = vec![in alloc; Reply::Published { txn: 1, place: 1 }, submitted(0)]?;
+    let further = vec![in alloc; Reply::Published { txn: 1, place: 1 }, submitted(1, 0)]?;
     let run = ran(alloc, LOAD, load_replies(alloc, 1, further)?, &[])?;
     did(
         &rt,
@@ -98,7 +97,7 @@ fn publish_turns_go_on_until_the_load_is_reached(rt: HostRuntime) -> Result<(), 
         Reply::Published { txn: 1, place: 3 },
         Reply::Published { txn: 5, place: 2 },
         Reply::Published { txn: 4, place: 1 },
-        submitted(2),
+        submitted(3, 2),
     ]?;
     let run = ran(alloc, LOAD, load_replies(alloc, 1, further)?, &[])?;
     did(
@@ -109,7 +108,7 @@ fn publish_turns_go_on_until_the_load_is_reached(rt: HostRuntime) -> Result<(), 
         b"BSPPP",
         &[CONTINUE, LOADED],
     )?;
-    let further = vec![in alloc; Reply::KeeperFault, submitted(2)]?;
+    let further = vec![in alloc; Reply::KeeperFault, submitted(3, 2)]?;
     let run = ran(alloc, LOAD, load_replies(alloc, 1, further)?, &[])?;
     did(
         &rt,
@@ -119,7 +118,7 @@ fn publish_turns_go_on_until_the_load_is_reached(rt: HostRuntime) -> Result<(), 
         b"BSP",
         &[CONTINUE, LATE],
     )?;
-    let further = vec![in alloc; Reply::NothingToPublish, submitted(2)]?;
+    let further = vec![in alloc; Reply::NothingToPublish, submitted(3, 2)]?;
     let run = ran(alloc, LOAD, load_replies(alloc, 1, further)?, &[])?;
     did(
         &rt,
