@@ -44,6 +44,11 @@ abbrev pub IfRun : Option Form → Type 0 → Type 0
 IfRun (Some (form.Run journal)) P = P
 IfRun _ P = Unit {0}
 
+-- this holds where the form is another, or there is none
+abbrev pub UnlessRun : Option Form → Type 0 → Type 0
+UnlessRun (Some (form.Run journal)) P = Unit {0}
+UnlessRun _ P = P
+
 -- how an honest run of requests ends: all were answered, or one that cannot be read was refused, or as many were answered as
 -- may be, or memory was short
 abbrev pub AnsweredAll : Exit → Type 0

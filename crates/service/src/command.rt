@@ -6,7 +6,7 @@ ghost use Rattle.dl_outside.specs.Writing.{AppendsFront};
 ghost use Rattle.service.specs.Columns.{bad_word, first_column, shape_of};
 ghost use Rattle.command_words.specs.Words.{form_of as form_of_words};
 ghost use Rattle.service.specs.Dryrun.{EndsBy, IfDryrun, Judges, NamesWord, exit_of_columns, fold_text};
-ghost use Rattle.service.specs.Serving.{AnsweredAll, IfRun, RanTo, RunDid};
+ghost use Rattle.service.specs.Serving.{AnsweredAll, IfRun, RanTo, RunDid, UnlessRun};
 
 use crate::Exit;
 use crate::columns::{model_of, read_shape};
@@ -113,7 +113,7 @@ pub fn run<S: Source, K: Sink, C: Clock, L: Ledger>(
 
     ensures later { S.faults source.old ≤ S.faults source.new }
     ensures later_sink { K.faults sink.old ≤ K.faults sink.new }
-    ensures quiet { IfDryrun (form_of_words (map string_bytes words.now)) (λ _ _. steps.new ≡ steps.old) }
+    ensures quiet { UnlessRun (form_of_words (map string_bytes words.now)) (steps.new ≡ steps.old) }
 {
     match form_of(alloc, words) {
         Ok(Form::Dryrun { model, columns }) => {
