@@ -178,3 +178,9 @@ string_exact q (b ∷ []) = go (b == q) refl
     go true h = record { is = here q b [] h; longest = λ other after t. omega arith }
     go false h = λ text rest t. elim (ends_or_has q b [] text rest t) [ inl e ↦ differs b q h e.0 | inr s ↦ nothing q s.0 rest s.1 ]
 string_exact q (b ∷ c ∷ cs) = step q b c cs (string_exact q cs) (string_exact q (c ∷ cs))
+
+pub is_longest : (q : ℕ) (bytes text rest : List ℕ) → string_at q bytes ≡ Some (text, rest) → IsLongestString q bytes text rest
+is_longest q bytes text rest e = subst (IsFound q bytes) e (string_exact q bytes)
+
+pub is_none : (q : ℕ) (bytes text rest : List ℕ) → string_at q bytes ≡ None → IsString q bytes text rest → ⊥
+is_none q bytes text rest e s = subst (IsFound q bytes) e (string_exact q bytes) text rest s

@@ -3,6 +3,7 @@
 
 mod bytes;
 mod integer;
+pub mod laws;
 mod lexeme;
 mod list;
 mod read;
