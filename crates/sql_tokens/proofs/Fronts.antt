@@ -3,6 +3,8 @@ use Rattle.std.proofs.Common.{◌≡◌, ◌+◌, ◌-◌, ◌<◌, ◌≤◌, a
 use Rattle.std.proofs.Math.Seq.{drop-length}
 use Rattle.std.specs.Prelude.{IfSome}
 use Rattle.std.specs.List.{prefix_len}
+use Rattle.std.specs.Str.Parse.{digits_value}
+use Rattle.dl_values.specs.Read.{minus}
 use Rattle.sql_tokens.specs.Bytes.{is_blank, begins_word, is_digit, in_word, in_quotes}
 use Rattle.sql_tokens.specs.Strings.{string_at}
 use Rattle.sql_tokens.specs.Signs.{followed, or_else, long_sign_at, long_sign_of, sign_of, sign_at}
@@ -10,7 +12,7 @@ use Rattle.sql_tokens.specs.declared.token.Token.{Token}
 use Rattle.sql_tokens.specs.declared.token.TokenKind.{TokenKind}
 use Rattle.sql_tokens.specs.declared.token.TokenKind.TheVariants as kind
 use Rattle.sql_tokens.specs.declared.token.Sign.{Sign}
-use Rattle.sql_tokens.specs.Tokens.{Lexeme, word, number, negative, quoted, string, signed, stray, lexeme, front, tokens_behind}
+use Rattle.sql_tokens.specs.Tokens.{Lexeme, word, number, negative, quoted, string, signed, stray, integer, lexeme, front, tokens_behind}
 use Rattle.sql_tokens.proofs.Rests.{IsEnd, back_to, no_longer, shorter, string_end}
 
 stray_end : (bs : List ℕ) → IsEnd [] bs
@@ -19,10 +21,10 @@ stray_end bs = record { count = length bs; is = sym (drop-length bs) }
 dropped : (n : ℕ) (bs : List ℕ) → IsEnd (drop n bs) bs
 dropped n bs = record { count = n; is = refl }
 
-negative_end : (n b : ℕ) (bs : List ℕ) → IsEnd (negative n b bs).1 bs
-negative_end n b bs = go (nat_lt 0 n)
+negative_end : (n : ℕ) (bs : List ℕ) → IsEnd (negative n bs).1 bs
+negative_end n bs = go (nat_lt 0 n)
   where
-    go : (r : Bool) → IsEnd (cond r (number n b bs) stray).1 bs
+    go : (r : Bool) → IsEnd (cond r (integer (minus (digits_value 10 (take n bs))), drop n bs) stray).1 bs
     go true = dropped n bs
     go false = stray_end bs
 
@@ -60,10 +62,10 @@ pub lexeme_end : (b : ℕ) (bs : List ℕ) → IsEnd (lexeme b bs).1 bs
 unfolding lexeme
 lexeme_end b bs = go (begins_word b) (is_digit b) (b == 45) (b == 96) ((b == 39) || (b == 34))
   where
-    go : (a d m q s : Bool) → IsEnd (cond a (word (prefix_len in_word bs) b bs) (cond d (number (prefix_len is_digit bs) b bs) (cond m (negative (prefix_len is_digit bs) b bs) (cond q (quoted (prefix_len in_quotes bs) bs) (cond s (string (string_at b bs)) (signed (sign_at b bs))))))).1 bs
+    go : (a d m q s : Bool) → IsEnd (cond a (word (prefix_len in_word bs) b bs) (cond d (number (prefix_len is_digit bs) b bs) (cond m (negative (prefix_len is_digit bs) bs) (cond q (quoted (prefix_len in_quotes bs) bs) (cond s (string (string_at b bs)) (signed (sign_at b bs))))))).1 bs
     go true d m q s = dropped _ bs
     go false true m q s = dropped _ bs
-    go false false true q s = negative_end _ b bs
+    go false false true q s = negative_end _ bs
     go false false false true s = quoted_end _ bs
     go false false false false true = string_is_end bs (string_at b bs) (string_end b bs)
     go false false false false false = signed_end b bs

@@ -1,5 +1,6 @@
 pub mod Kept
 pub mod Rests
 pub mod Fronts
+pub mod Numbers
 pub mod Firsts
 pub mod Longest

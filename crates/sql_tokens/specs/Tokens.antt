@@ -1,10 +1,8 @@
 -- The tokens of a statement (this project's own, after the SQL of the Apache Doris documentation). The longest token counts.
-use Rattle.std.specs.Prelude.{ℕ, ◌+◌, ◌-◌, ◌==◌, ◌&&◌, ◌||◌, zero, suc, nat_lt, List, [], ◌∷◌, take, drop, length, Option, Some, None, if◌then◌else◌}
+use Rattle.std.specs.Prelude.{ℕ, ℤ, pos, ◌+◌, ◌-◌, ◌==◌, ◌&&◌, ◌||◌, zero, suc, nat_lt, List, [], ◌∷◌, take, drop, length, Option, Some, None, if◌then◌else◌}
 use Rattle.std.specs.List.{prefix_len}
-use Rattle.dl_values.specs.declared.cell.Cell.{Cell}
-use Rattle.dl_values.specs.declared.cell.Cell.TheVariants as cell
-use Rattle.dl_values.specs.declared.col_type.ColType.TheVariants as type
-use Rattle.dl_values.specs.Read.{read}
+use Rattle.std.specs.Str.Parse.{digits_value}
+use Rattle.dl_values.specs.Read.{is_within, minus}
 use Rattle.sql_tokens.specs.Bytes.{is_blank, begins_word, in_word, is_digit, in_quotes}
 use Rattle.sql_tokens.specs.Signs.{sign_at}
 use Rattle.sql_tokens.specs.Strings.{string_at}
@@ -25,21 +23,17 @@ stray = (kind.Stray, [])
 abbrev pub word : ℕ → ℕ → List ℕ → Lexeme
 word n b bs = (kind.Word (b ∷ take n bs), drop n bs)
 
--- the integer of a text: a BIGINT, or else beyond
-abbrev pub integer : Option Cell → TokenKind
-integer (Some (cell.Int z)) = kind.Int z
-integer _ = kind.Beyond
-
-abbrev pub integer_of : List ℕ → TokenKind
-integer_of digits = integer (read type.BigInt digits)
+-- an integer, where 64 signed bits hold it
+abbrev pub integer : ℤ → TokenKind
+integer z = if is_within 9223372036854775808 z then kind.Int z else kind.Beyond
 
 -- a digit, then digits
 abbrev pub number : ℕ → ℕ → List ℕ → Lexeme
-number n b bs = (integer_of (b ∷ take n bs), drop n bs)
+number n b bs = (integer (pos (digits_value 10 (b ∷ take n bs))), drop n bs)
 
--- `-`, then one or more digits
-abbrev pub negative : ℕ → ℕ → List ℕ → Lexeme
-negative n b bs = if nat_lt 0 n then number n b bs else stray
+-- behind a minus: one or more digits
+abbrev pub negative : ℕ → List ℕ → Lexeme
+negative n bs = if nat_lt 0 n then (integer (minus (digits_value 10 (take n bs))), drop n bs) else stray
 
 -- behind a backquote: one or more bytes that are none, then one
 abbrev pub quoted : ℕ → List ℕ → Lexeme
@@ -58,7 +52,7 @@ unfoldable pub lexeme : ℕ → List ℕ → Lexeme
 lexeme b bs =
     if begins_word b then word (prefix_len in_word bs) b bs
     else if is_digit b then number (prefix_len is_digit bs) b bs
-    else if b == 45 then negative (prefix_len is_digit bs) b bs
+    else if b == 45 then negative (prefix_len is_digit bs) bs
     else if b == 96 then quoted (prefix_len in_quotes bs) bs
     else if (b == 39) || (b == 34) then string (string_at b bs)
     else signed (sign_at b bs)

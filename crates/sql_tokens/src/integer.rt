@@ -1,6 +1,6 @@
 // The integer that digits spell.
 ghost use Rattle.std.specs.Prelude.{◌≡◌, IfOk};
-ghost use Rattle.sql_tokens.specs.Tokens.{integer_of};
+ghost use Rattle.sql_tokens.specs.Steps.{integer_of};
 
 use crate::TokenKind;
 use dl_values::{Cell, ColType, NoMemory, ReadError};

@@ -2,7 +2,8 @@
 ghost use Rattle.std.specs.Prelude.{◌≡◌, ◌<◌, ◌+◌, ◌∷◌, IfOk, length, take, drop, option_map};
 ghost use Rattle.std.specs.List.{prefix_len};
 ghost use Rattle.sql_tokens.specs.Bytes.{in_quotes};
-ghost use Rattle.sql_tokens.specs.Tokens.{front, integer_of, quoted};
+ghost use Rattle.sql_tokens.specs.Steps.{integer_of};
+ghost use Rattle.sql_tokens.specs.Tokens.{front, quoted};
 ghost use Rattle.sql_tokens.specs.declared.token.TokenKind.TheVariants as kind;
 
 use crate::TokenKind;

@@ -24,7 +24,7 @@ fn first_token(alloc: Global, all: usize, left: &[u8]) -> Result<Option<(Token, 
     }
 }
 
-/// Reading the tokens of a text. Where none begins, a `Stray` stands last.
+/// The tokens of a text. Where none begins, a `Stray` stands last.
 pub fn tokens(alloc: Global, text: &str) -> Result<Tokens, NoMemory>
     ensures { IfOk result (λ found. found ≡ tokens_of text.now) }
 {
