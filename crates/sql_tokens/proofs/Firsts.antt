@@ -1,5 +1,5 @@
 -- The first byte of a text says which token it begins.
-use Rattle.std.proofs.Common.{◌≡◌, pos, ◌+◌, ◌-◌, ◌<◌, ◌≤◌, arith, ℕ, zero, suc, Bool, true, false, cond, Option, Some, None, List, [], ◌∷◌, take, drop, length, sym, ap, refl, ◌∙◌, ◌==◌, nat_lt, get_or, add-one}
+use Rattle.std.proofs.Common.{◌≡◌, pos, ◌+◌, ◌-◌, ◌<◌, ◌≤◌, arith, ℕ, true, false, Some, List, [], ◌∷◌, take, drop, length, sym, ap, refl, ◌∙◌, nat_lt, get_or, add-one}
 use Rattle.std.proofs.Math.Seq.{take-length}
 use Rattle.std.specs.List.{prefix_len}
 use Rattle.std.proofs.lemmas.Bool.{lt-ltb}
@@ -10,7 +10,7 @@ use Rattle.std.specs.Str.Parse.{digits_value}
 use Rattle.dl_values.specs.Read.{minus}
 use Rattle.sql_tokens.specs.Steps.{integer_of}
 use Rattle.sql_tokens.proofs.Numbers.{plain_integer, negative_integer, digits_in_front, some_digits}
-use Rattle.sql_tokens.specs.Tokens.{Lexeme, word, number, negative, integer, lexeme, front}
+use Rattle.sql_tokens.specs.Tokens.{Lexeme, integer, lexeme, front}
 
 take_first : (n b : ℕ) (bs : List ℕ) → take (n + 1) (b ∷ bs) ≡ b ∷ take n bs
 take_first n b bs = rw add-one refl

@@ -1,5 +1,5 @@
 -- The first token of a text.
-use Rattle.std.proofs.Common.{◌≡◌, ◌+◌, ◌-◌, ◌<◌, ◌≤◌, arith, ℕ, zero, suc, Bool, true, false, cond, Option, Some, None, List, [], ◌∷◌, take, drop, length, sym, ap, refl, subst, MatchOption, option_map, ◌==◌, ◌&&◌, ◌||◌, nat_lt, ◌∙◌}
+use Rattle.std.proofs.Common.{◌≡◌, ◌+◌, ◌-◌, ◌<◌, ◌≤◌, arith, ℕ, zero, suc, Bool, true, false, cond, Option, Some, None, List, [], ◌∷◌, take, drop, length, sym, ap, refl, subst, MatchOption, ◌==◌, ◌&&◌, ◌||◌, nat_lt, ◌∙◌}
 use Rattle.std.proofs.Math.Seq.{drop-length}
 use Rattle.std.specs.Prelude.{IfSome}
 use Rattle.std.specs.List.{prefix_len}
@@ -7,7 +7,7 @@ use Rattle.std.specs.Str.Parse.{digits_value}
 use Rattle.dl_values.specs.Read.{minus}
 use Rattle.sql_tokens.specs.Bytes.{is_blank, begins_word, is_digit, in_word, in_quotes}
 use Rattle.sql_tokens.specs.Strings.{string_at}
-use Rattle.sql_tokens.specs.Signs.{followed, or_else, long_sign_at, long_sign_of, sign_of, sign_at}
+use Rattle.sql_tokens.specs.Signs.{followed, or_else, long_sign_of, sign_of, sign_at}
 use Rattle.sql_tokens.specs.declared.token.Token.{Token}
 use Rattle.sql_tokens.specs.declared.token.TokenKind.{TokenKind}
 use Rattle.sql_tokens.specs.declared.token.TokenKind.TheVariants as kind
@@ -78,7 +78,7 @@ rest_of all zero bs = refl
 rest_of all (suc n) [] = refl
 rest_of all (suc n) (b ∷ bs) = rest_of all n bs
 
-behind : (all b : ℕ) (bs : List ℕ) → tokens_behind all (length bs - length (lexeme b bs).1) bs ≡ tokens_behind all 0 (lexeme b bs).1
+pub behind : (all b : ℕ) (bs : List ℕ) → tokens_behind all (length bs - length (lexeme b bs).1) bs ≡ tokens_behind all 0 (lexeme b bs).1
 behind all b bs = rest_of all (length bs - length (lexeme b bs).1) bs ∙ ap (tokens_behind all 0) (back_to (lexeme b bs).1 bs (lexeme_end b bs))
 
 -- these are the tokens, by the text without its first blanks

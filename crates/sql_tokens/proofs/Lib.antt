@@ -4,3 +4,4 @@ pub mod Fronts
 pub mod Numbers
 pub mod Firsts
 pub mod Longest
+pub mod Strays

@@ -1,6 +1,6 @@
 -- The integer that digits spell is what their text is in a BIGINT column.
-use Rattle.std.proofs.Common.{◌≡◌, ◌+◌, ◌-◌, ◌<◌, ◌≤◌, arith, ℕ, ℤ, pos, zero, suc, Bool, true, false, cond, Option, Some, None, List, [], ◌∷◌, ◌++◌, take, drop, length, sym, ap, refl, ◌∙◌, ◌==◌, ◌&&◌, nat_lt, add-one, reverse, subst, append_assoc}
-use Rattle.std.specs.List.{prefix_len, All}
+use Rattle.std.proofs.Common.{◌≡◌, ◌+◌, ◌-◌, ◌<◌, arith, ℕ, ℤ, pos, suc, Bool, true, false, cond, Some, None, List, [], ◌∷◌, ◌++◌, take, length, sym, ap, refl, ◌∙◌, ◌==◌, ◌&&◌, nat_lt, reverse, subst, append_assoc}
+use Rattle.std.specs.List.{prefix_len}
 use Rattle.std.specs.Char.{is_ascii_digit}
 use Rattle.std.specs.Str.{all_ascii_digits}
 use Rattle.std.specs.Str.Parse.{digits_value}
@@ -9,7 +9,6 @@ use Rattle.std.proofs.lemmas.Bool.{lt-ltb}
 use Rattle.std.proofs.lemmas.Bool.Decides.{nat_tests}
 use Rattle.dl_values.specs.Read.{strip_front, strip_back, without_blanks, number_of, signed_number, is_within, int_below, minus}
 use Rattle.sql_tokens.specs.Bytes.{is_digit}
-use Rattle.sql_tokens.specs.declared.token.TokenKind.{TokenKind}
 use Rattle.sql_tokens.specs.Steps.{by_cell, integer_of}
 use Rattle.sql_tokens.specs.Tokens.{integer}
 

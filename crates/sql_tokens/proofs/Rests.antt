@@ -1,7 +1,6 @@
 -- What stands behind a token is an end of the text.
-use Rattle.std.proofs.Common.{◌≡◌, ◌+◌, ◌-◌, ◌≤◌, arith, ℕ, zero, suc, Bool, true, false, cond, Option, Some, None, List, [], ◌∷◌, take, drop, length, sym, ap, refl, subst, ◌∙◌, length-drop, ◌==◌, ◌&&◌}
+use Rattle.std.proofs.Common.{◌≡◌, ◌-◌, ◌≤◌, arith, ℕ, zero, suc, Bool, true, false, cond, Option, Some, None, List, [], ◌∷◌, drop, length, refl, length-drop, ◌==◌}
 use Rattle.std.specs.Prelude.{option_map, IfSome}
-use Rattle.std.specs.List.{prefix_len}
 use Rattle.sql_tokens.specs.Strings.{escaped, with_first, or_closed, string_at}
 
 -- one list is the other without so many at the front

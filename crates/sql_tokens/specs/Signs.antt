@@ -1,5 +1,5 @@
 -- The signs of statements.
-use Rattle.std.specs.Prelude.{ℕ, ◌==◌, ◌&&◌, ◌||◌, List, [], ◌∷◌, Option, Some, None, if◌then◌else◌}
+use Rattle.std.specs.Prelude.{ℕ, ◌==◌, ◌&&◌, List, [], ◌∷◌, Option, Some, None, if◌then◌else◌}
 use Rattle.sql_tokens.specs.declared.token.Sign.{Sign}
 use Rattle.sql_tokens.specs.declared.token.Sign.TheVariants as sign
 
@@ -31,6 +31,7 @@ abbrev pub followed : Option Sign → List ℕ → Option (Sign × List ℕ)
 followed None bs = None
 followed (Some s) bs = Some (s, bs)
 
+-- the first of two, where there is one, or else the second
 abbrev pub or_else : Option (Sign × List ℕ) → Option (Sign × List ℕ) → Option (Sign × List ℕ)
 or_else None other = other
 or_else (Some x) other = Some x

@@ -35,14 +35,16 @@ number n b bs = (integer (pos (digits_value 10 (b ∷ take n bs))), drop n bs)
 abbrev pub negative : ℕ → List ℕ → Lexeme
 negative n bs = if nat_lt 0 n then (integer (minus (digits_value 10 (take n bs))), drop n bs) else stray
 
--- behind a backquote: one or more bytes that are none, then one
+-- behind a backquote: one or more bytes other than it, and then it
 abbrev pub quoted : ℕ → List ℕ → Lexeme
 quoted n bs = if nat_lt 0 n && nat_lt n (length bs) then (kind.Quoted (take n bs), drop (n + 1) bs) else stray
 
+-- a string, where it is closed
 abbrev pub string : Option (List ℕ × List ℕ) → Lexeme
 string (Some x) = (kind.Text x.0, x.1)
 string None = stray
 
+-- a sign, where there is one
 abbrev pub signed : Option (Sign × List ℕ) → Lexeme
 signed (Some x) = (kind.Sign x.0, x.1)
 signed None = stray
