@@ -1,5 +1,5 @@
 // Reading the tokens of a text.
-ghost use Rattle.std.specs.Prelude.{◌≡◌, [], ◌∷◌, ◌<◌, ◌≤◌, length, IfOk, MatchOption};
+ghost use Rattle.std.specs.Prelude.{◌≡◌, [], ◌∷◌, ◌<◌, ◌≤◌, ◌-◌, length, IfOk, MatchOption};
 ghost use Rattle.sql_tokens.specs.Tokens.{tokens_behind, tokens_of};
 
 use crate::bytes::{Class, run_length};
@@ -7,6 +7,14 @@ use crate::lexeme::front;
 use crate::{Token, Tokens};
 use dl_values::NoMemory;
 use std::alloc::Global;
+
+// The offset at which what is left of a text of so many bytes begins.
+fn place(all: usize, left: &[u8]) -> u64
+    requires { length left.now ≤ all }
+    ensures { result ≡ all - length left.now }
+{
+    (all - left.len()) as u64
+}
 
 // The first token of what is left of a text of so many bytes, and what stands behind it.
 fn first_token(alloc: Global, all: usize, left: &[u8]) -> Result<Option<(Token, &[u8])>, NoMemory>
@@ -18,7 +26,7 @@ fn first_token(alloc: Global, all: usize, left: &[u8]) -> Result<Option<(Token, 
     match front(alloc, text)? {
         None => Ok(None),
         Some((kind, behind)) => {
-            let at = (all - text.len()) as u64;
+            let at = place(all, text);
             Ok(Some((Token { at, kind }, behind)))
         }
     }
