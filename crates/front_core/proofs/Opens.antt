@@ -3,7 +3,7 @@ use Rattle.std.proofs.Common.{◌≡◌, ℕ, ◌+◌, ◌≤◌, ◌<◌, Bool,
 use Rattle.std.proofs.lemmas.Bool.Decides.{nat_tests}
 use Rattle.std.specs.Prelude.{is_some, nat_lt}
 use Rattle.dl_values.specs.declared.cell.Cell.{Cell}
-use Rattle.sql_text.specs.declared.table_def.TableDef.{TableDef}
+use Rattle.sql_text.specs.declared.plain_def.PlainDef.{PlainDef}
 use Rattle.schema_models.specs.ShapeView.{ShapeView}
 use Rattle.schema_models.specs.Folds.{fold_of}
 use Rattle.labels.specs.declared.txn_state.TxnState.TheVariants as state
@@ -74,13 +74,13 @@ more_versions : (t n last : ℕ) (ks : List TabletLists) (k : TabletLists) → k
 more_versions t n last [] k e f known = one_version (nat_eq k.table t) (nat_eq n t) k (ap (λ (m : ℕ). nat_eq m t) e)
 more_versions t n last (x ∷ xs) k e f known = versions_cons t n last x k (stored_for t (xs ++ k ∷ [])) (stored_for t xs) (nat_eq x.table t) refl known.0 f (more_versions t n last xs k e f known.1)
 
-abbrev made_of : List ℕ → List ℕ → TableDef → TableMade
+abbrev made_of : List ℕ → List ℕ → PlainDef → TableMade
 made_of db name def = record { db = db; name = name; shape = shape_by def; layout = layout_by name def }
 
 abbrev stored_new : ℕ → TabletLists
 stored_new n = record { table = n; versions = 1 ∷ []; lists = [] }
 
-table_by : (v : View) (Es : List Event) (db name : List ℕ) (def : TableDef) (flag b : Bool) → is_some (table_named db name v.tables) ≡ b → IsFront v → Each (HasHome (tables_of Es)) (txns_of Es) → StandsOpen v Es → Acts v (with_table db name def v) Es (command.CreateTable db name def flag)
+table_by : (v : View) (Es : List Event) (db name : List ℕ) (def : PlainDef) (flag b : Bool) → is_some (table_named db name v.tables) ≡ b → IsFront v → Each (HasHome (tables_of Es)) (txns_of Es) → StandsOpen v Es → Acts v (with_table db name def v) Es (command.CreateTable db name def flag)
 table_by v Es db name def flag true is p homes s =
     let too : is_some (table_named db name (tables_of Es)) ≡ true = ap (λ ts. is_some (table_named db name ts)) (sym s.cat.tables) ∙ is in
     rw (is, too) (record { live = refl; parts = s })
@@ -100,7 +100,7 @@ table_by v Es db name def flag false is p homes s =
       };
     })
 
-pub makes_table : (v new : View) (Es : List Event) (db name : List ℕ) (def : TableDef) (flag : Bool) → new ≡ with_table db name def v → IsFront v → Each (HasHome (tables_of Es)) (txns_of Es) → StandsOpen v Es → Acts v new Es (command.CreateTable db name def flag)
+pub makes_table : (v new : View) (Es : List Event) (db name : List ℕ) (def : PlainDef) (flag : Bool) → new ≡ with_table db name def v → IsFront v → Each (HasHome (tables_of Es)) (txns_of Es) → StandsOpen v Es → Acts v new Es (command.CreateTable db name def flag)
 makes_table v new Es db name def flag e p homes s = subst (λ (x : View). Acts v x Es (command.CreateTable db name def flag)) (sym e) (table_by v Es db name def flag (is_some (table_named db name v.tables)) refl p homes s)
 
 -- A load begins.

@@ -4,13 +4,13 @@ use Rattle.schema_models.specs.Faults.{first_of}
 use Rattle.schema_models.specs.declared.column_def.ColumnDef.{ColumnDef}
 use Rattle.schema_models.specs.declared.role.Role.{Role}
 use Rattle.schema_models.specs.declared.role.Role.TheVariants as role
-use Rattle.sql_text.specs.declared.table_def.ColumnText.{ColumnText}
+use Rattle.sql_text.specs.declared.plain_def.PlainColumn.{PlainColumn}
 use Rattle.table_defs.specs.declared.def_error.DefError.{DefError}
 use Rattle.front_defs.specs.declared.reply.Reply.{Reply}
 use Rattle.std.specs.Option.{option_map}
 use Rattle.schema_models.specs.ShapeRules.{shape_fault}
 use Rattle.schema_models.specs.ShapeView.{ShapeView}
-use Rattle.sql_text.specs.declared.table_def.TableDef.{TableDef}
+use Rattle.sql_text.specs.declared.plain_def.PlainDef.{PlainDef}
 use Rattle.table_defs.specs.declared.def_error.DefError.TheVariants as def_error
 use Rattle.front_defs.specs.Defines.{columns_by, column_as, shape_by, buckets_by, layout_fault, key_fault, def_fault}
 use Rattle.front_defs.specs.declared.reply.Reply.TheVariants as reply
@@ -31,13 +31,13 @@ pub record IsNext (left next : ℕ) (r : Role) : Type 0 where
   pub none : left ≡ 0 → (r ≡ role.Plain) × (next ≡ 0)
   pub some : (n : ℕ) → left ≡ n + 1 → (r ≡ role.Key) × (next ≡ n)
 
-next_column : (left next : ℕ) (r : Role) (c : ColumnText) (cs : List ColumnText) → IsNext left next r → columns_by left (c ∷ cs) ≡ column_as r c ∷ columns_by next cs
+next_column : (left next : ℕ) (r : Role) (c : PlainColumn) (cs : List PlainColumn) → IsNext left next r → columns_by left (c ∷ cs) ≡ column_as r c ∷ columns_by next cs
 next_column zero next r c cs h = let k = h.none refl in rw (k.0, k.1) refl
 next_column (suc n) next r c cs h = let k = h.some n (omega arith) in rw (k.0, k.1) refl
 
-pub read_on : (left next : ℕ) (r : Role) (xs : List ColumnDef) (x : ColumnDef) (texts : List ColumnText) (i : ℕ) (c : ColumnText) (all : List ColumnDef) → i < length texts → c ≡ get_or texts i c → x ≡ column_as r c → IsNext left next r → xs ++ columns_by left (drop i texts) ≡ all → (xs ++ x ∷ []) ++ columns_by next (drop (i + 1) texts) ≡ all
+pub read_on : (left next : ℕ) (r : Role) (xs : List ColumnDef) (x : ColumnDef) (texts : List PlainColumn) (i : ℕ) (c : PlainColumn) (all : List ColumnDef) → i < length texts → c ≡ get_or texts i c → x ≡ column_as r c → IsNext left next r → xs ++ columns_by left (drop i texts) ≡ all → (xs ++ x ∷ []) ++ columns_by next (drop (i + 1) texts) ≡ all
 read_on left next r xs x texts i c all lt at is h e =
-    let there : drop i texts ≡ c ∷ drop (i + 1) texts = rw add-one (drop-cons texts i c lt ∙ ap (λ (y : ColumnText). y ∷ drop (suc i) texts) (sym at)) in
+    let there : drop i texts ≡ c ∷ drop (i + 1) texts = rw add-one (drop-cons texts i c lt ∙ ap (λ (y : PlainColumn). y ∷ drop (suc i) texts) (sym at)) in
     append_assoc xs (x ∷ []) (columns_by next (drop (i + 1) texts)) ∙ ap (λ (y : ColumnDef). xs ++ y ∷ columns_by next (drop (i + 1) texts)) is ∙ ap (λ ys. xs ++ ys) (sym (next_column left next r c (drop (i + 1) texts) h)) ∙ ap (λ ts. xs ++ columns_by left ts) (sym there) ∙ e
 
 pub refuses_more : (a b d : Option DefError) (r : Reply) → Refuses (first_of (a ∷ b ∷ [])) r → Refuses (first_of (a ∷ b ∷ d ∷ [])) r
@@ -60,7 +60,7 @@ err_last a b d (Ok x) e h = tt
 err_last a b d (Err r) e h = refuses_last a b d r e h
 
 -- the fault of the layout, where the shape has none
-pub layout_err : {T : Type 0} (def : TableDef) (s : ShapeView) (buckets : ℕ) (res : Result T Reply) → s ≡ shape_by def → buckets ≡ buckets_by def → shape_faults def ≡ None → IfErr res (Refuses (option_map def_error.Layout (layout_fault s def.hash buckets))) → IfErr res (Refuses (def_fault def))
+pub layout_err : {T : Type 0} (def : PlainDef) (s : ShapeView) (buckets : ℕ) (res : Result T Reply) → s ≡ shape_by def → buckets ≡ buckets_by def → shape_faults def ≡ None → IfErr res (Refuses (option_map def_error.Layout (layout_fault s def.hash buckets))) → IfErr res (Refuses (def_fault def))
 layout_err def s buckets res e f n h =
     let k = rw (e, f) at h in
     err_last (key_fault def) (option_map def_error.Shape (shape_fault (shape_by def).model (shape_by def).columns)) (option_map def_error.Layout (layout_fault (shape_by def) def.hash (buckets_by def))) res n k

@@ -17,7 +17,7 @@ use Rattle.front_defs.specs.Stored.{versions_with}
 use Rattle.front_defs.specs.Stands.{WaitingRows, View, stored_for, lists_in, versions_in, waiting_for}
 use Rattle.front_defs.specs.declared.event.TableMade.{TableMade}
 use Rattle.front_defs.specs.declared.event.TxnBegun.{TxnBegun}
-use Rattle.sql_text.specs.declared.table_def.TableDef.{TableDef}
+use Rattle.sql_text.specs.declared.plain_def.PlainDef.{PlainDef}
 use Rattle.shadow_writes.specs.declared.built.Mapped.{Mapped}
 use Rattle.shadow_writes.specs.declared.built.Mapped.TheVariants.{Sets}
 use Rattle.front_laws.specs.Tidy.{Each}
@@ -104,7 +104,7 @@ with_db name v = cond (has_db name v.databases) v (record v { databases = v.data
 abbrev pub with_new_table : TableMade → View → View
 with_new_table m v = record v { tables = v.tables ++ new_table m (v.last_table + 1) ∷ []; last_table = v.last_table + 1; tablets = v.tablets ++ record { table = v.last_table + 1; versions = 1 ∷ []; lists = [] } ∷ [] }
 
-abbrev pub with_table : List ℕ → List ℕ → TableDef → View → View
+abbrev pub with_table : List ℕ → List ℕ → PlainDef → View → View
 with_table db name def v = cond (is_some (table_named db name v.tables)) v (with_new_table (record { db = db; name = name; shape = shape_by def; layout = layout_by name def }) v)
 
 -- a load of a table begins

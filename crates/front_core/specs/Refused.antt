@@ -3,7 +3,7 @@ use Rattle.std.specs.Prelude.{◌≡◌, ℕ, not, List, [], ◌∷◌, Option, 
 use Rattle.std.specs.Option.{option_map}
 use Rattle.schema_models.specs.Faults.{first_of}
 use Rattle.schema_models.specs.ShapeRules.{shape_fault}
-use Rattle.sql_text.specs.declared.table_def.TableDef.{TableDef}
+use Rattle.sql_text.specs.declared.plain_def.PlainDef.{PlainDef}
 use Rattle.table_defs.specs.declared.def_error.DefError.{DefError}
 use Rattle.table_defs.specs.declared.def_error.DefError.TheVariants as def_error
 use Rattle.front_defs.specs.declared.reply.Reply.{Reply}
@@ -19,7 +19,7 @@ abbrev pub Refuses : Option DefError → Reply → Type 0
 Refuses fault r = (r ≡ reply.NoMemory) ⊎ (refused_by fault ≡ Some r)
 
 -- the first fault of the key list and the columns
-abbrev pub shape_faults : TableDef → Option DefError
+abbrev pub shape_faults : PlainDef → Option DefError
 shape_faults def = first_of (key_fault def ∷ option_map def_error.Shape (shape_fault (shape_by def).model (shape_by def).columns) ∷ [])
 
 -- want of memory, or the refusal of this label

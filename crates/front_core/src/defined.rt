@@ -11,7 +11,7 @@ use dl_values::{Name, NoMemory};
 use front_defs::Reply;
 use partitions::{Layout, LayoutError};
 use schema_models::{ColumnDef, Model, Role, Shape, ShapeError};
-use sql_text::{ColumnText, KeyClause, TableDef};
+use sql_text::{KeyClause, PlainColumn, PlainDef};
 use sqlite_items::Items;
 use std::alloc::Global;
 use table_defs::DefError;
@@ -35,7 +35,7 @@ fn keys_of(key: &Option<KeyClause>) -> usize
 }
 
 // The place of the first name of a key list that is not that of the column in its place.
-fn first_differs(names: &[Name], columns: &[ColumnText]) -> Option<usize>
+fn first_differs(names: &[Name], columns: &[PlainColumn]) -> Option<usize>
     ensures { result ≡ defines.first_differs 0 names.now columns.now }
 {
     for (i, name) in names.iter().enumerate() {
@@ -51,7 +51,7 @@ fn first_differs(names: &[Name], columns: &[ColumnText]) -> Option<usize>
     None
 }
 
-fn key_differs(def: &TableDef) -> Option<usize>
+fn key_differs(def: &PlainDef) -> Option<usize>
     ensures { result ≡ defines.key_differs def.now.key def.now.columns }
 {
     match &def.key {
@@ -72,7 +72,7 @@ fn next_role(left: &mut usize) -> Role
     Role::Key
 }
 
-fn column_of(alloc: Global, role: Role, text: &ColumnText) -> Result<ColumnDef, NoMemory>
+fn column_of(alloc: Global, role: Role, text: &PlainColumn) -> Result<ColumnDef, NoMemory>
     ensures { IfOk result (λ c. c ≡ defines.column_as role text.now) }
 {
     let name = text.name.copy(alloc)?;
@@ -86,7 +86,7 @@ fn column_of(alloc: Global, role: Role, text: &ColumnText) -> Result<ColumnDef, 
 }
 
 // The columns, the first of which are keys.
-fn columns_of(alloc: Global, keys: usize, texts: &[ColumnText]) -> Result<Vec<ColumnDef>, NoMemory>
+fn columns_of(alloc: Global, keys: usize, texts: &[PlainColumn]) -> Result<Vec<ColumnDef>, NoMemory>
     ensures { IfOk result (λ v. v.items ≡ defines.columns_by keys texts.now) }
 {
     let mut left = keys;
@@ -168,7 +168,7 @@ fn layout_fault(
 }
 
 // The shape that a definition writes, or the first fault of its key list and its columns.
-fn shape_of(alloc: Global, def: &TableDef) -> Result<Shape, Reply>
+fn shape_of(alloc: Global, def: &PlainDef) -> Result<Shape, Reply>
     ensures ok { IfOk result (λ s. (s ≡ defines.shape_by def.now) × (shape_faults def.now ≡ None)) }
     ensures err { IfErr result (Refuses (shape_faults def.now)) }
 {
@@ -254,7 +254,7 @@ fn with_layout(
 }
 
 // What a definition gives a table of this name, or its first fault as a refusal.
-pub fn define(alloc: Global, table: &Name, def: TableDef) -> Result<Defined, Reply>
+pub fn define(alloc: Global, table: &Name, def: PlainDef) -> Result<Defined, Reply>
     ensures ok { IfOk result (λ d. (d.shape ≡ defines.shape_by def) × (d.layout ≡ defines.layout_by table.now def) × (defines.def_fault def ≡ None)) }
     ensures err { IfErr result (Refuses (defines.def_fault def)) }
 {

@@ -31,7 +31,7 @@ use merge_read::Snapshot;
 use rowsets::Rowset;
 use schema_models::is_name;
 use shadow_writes::{Built, Plan};
-use sql_text::TableDef;
+use sql_text::PlainDef;
 use std::alloc::Global;
 use std::marker::Model;
 use std::sync::Arc;
@@ -211,7 +211,7 @@ impl Front {
         }
     }
 
-    fn create_table(&mut self, db: Name, table: Name, def: TableDef, if_not_exists: bool) -> Reply
+    fn create_table(&mut self, db: Name, table: Name, def: PlainDef, if_not_exists: bool) -> Reply
         ensures answer { CreatesTable db table def if_not_exists self.old.databases self.old.tables result }
         ensures well { outcome result ≡ Well → self.new ≡ with_table db table def self.old }
         ensures kept { outcome result ≡ Refused → self.new ≡ self.old }

@@ -11,7 +11,7 @@ use partitions::Layout;
 use rowsets::Rowset;
 use schema_models::{ColumnDef, Model, Role, Shape};
 use shadow_writes::{Built, Mapped, Plan, TabletRows};
-use sql_text::{ColumnText, Query, TableDef};
+use sql_text::{PlainColumn, PlainDef, Query};
 use sqlite_items::Items;
 use std::alloc::Global;
 use std::marker::Brand;
@@ -45,14 +45,14 @@ fn names(alloc: Global, text: &str) -> Result<Items<Name>, NoMemory> {
     Ok(names)
 }
 
-fn def(alloc: Global, hash: &str) -> Result<TableDef, NoMemory> {
+fn def(alloc: Global, hash: &str) -> Result<PlainDef, NoMemory> {
     let mut columns = Items::new(alloc);
-    columns.push(ColumnText {
+    columns.push(PlainColumn {
         name: name(alloc, "k")?,
         kind: ColType::Int,
         nullable: false,
     })?;
-    Ok(TableDef {
+    Ok(PlainDef {
         columns,
         key: None,
         hash: names(alloc, hash)?,

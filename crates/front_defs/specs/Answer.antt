@@ -2,7 +2,7 @@
 use Rattle.std.specs.Prelude.{◌≡◌, ℕ, ◌+◌, ◌≤◌, Bool, cond, not, ◌&&◌, List, [], ◌∷◌, Option, Some, None, is_some, is_none, map, length, nat_le}
 use Rattle.std.specs.List.{flat_map}
 use Rattle.dl_values.specs.declared.cell.Cell.{Cell}
-use Rattle.sql_text.specs.declared.table_def.TableDef.{TableDef}
+use Rattle.sql_text.specs.declared.plain_def.PlainDef.{PlainDef}
 use Rattle.shadow_writes.specs.declared.plan.Plan.{Plan}
 use Rattle.table_defs.specs.declared.def_error.DefError.{DefError}
 use Rattle.front_defs.specs.declared.event.Event.{Event}
@@ -44,17 +44,17 @@ abbrev pub refused_by : Option DefError → Option Reply
 refused_by None = None
 refused_by (Some e) = Some (reply.BadTable e)
 
-abbrev pub refused_def : TableDef → Option Reply
+abbrev pub refused_def : PlainDef → Option Reply
 refused_def def = refused_by (def_fault def)
 
-abbrev pub create_table_refusals : List ℕ → List ℕ → TableDef → Bool → List (List ℕ) → List Table → List (Option Reply)
+abbrev pub create_table_refusals : List ℕ → List ℕ → PlainDef → Bool → List (List ℕ) → List Table → List (Option Reply)
 create_table_refusals db table def if_not_exists dbs tables =
     refuse_if (not (has_db db dbs)) reply.UnknownDb
     ∷ refuse_if (is_some (table_named db table tables)) (cond if_not_exists reply.Done reply.TableExists)
     ∷ refuse_if (not (is_name table)) reply.BadName
     ∷ refuse_if (nat_le most (length tables)) reply.TooManyTables ∷ refused_def def ∷ []
 
-abbrev pub CreatesTable : List ℕ → List ℕ → TableDef → Bool → List (List ℕ) → List Table → Reply → Type 0
+abbrev pub CreatesTable : List ℕ → List ℕ → PlainDef → Bool → List (List ℕ) → List Table → Reply → Type 0
 CreatesTable db table def if_not_exists dbs tables r = Answers (create_table_refusals db table def if_not_exists dbs tables) (λ r. r ≡ reply.Done) r
 
 -- Begin

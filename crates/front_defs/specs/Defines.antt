@@ -11,9 +11,9 @@ use Rattle.schema_models.specs.declared.model.Model.TheVariants as model
 use Rattle.schema_models.specs.declared.role.Role.{Role}
 use Rattle.schema_models.specs.declared.role.Role.TheVariants as role
 use Rattle.schema_models.specs.declared.shape_error.ShapeError.TheVariants as shape_error
-use Rattle.sql_text.specs.declared.table_def.TableDef.{TableDef}
-use Rattle.sql_text.specs.declared.table_def.ColumnText.{ColumnText}
-use Rattle.sql_text.specs.declared.table_def.KeyClause.{KeyClause}
+use Rattle.sql_text.specs.declared.plain_def.PlainDef.{PlainDef}
+use Rattle.sql_text.specs.declared.plain_def.PlainColumn.{PlainColumn}
+use Rattle.sql_text.specs.declared.key_clause.KeyClause.{KeyClause}
 use Rattle.partitions.specs.LayoutView.{LayoutView, whole}
 use Rattle.partitions.specs.declared.layout_error.LayoutError.{LayoutError}
 use Rattle.partitions.specs.declared.layout_error.LayoutError.TheVariants as layout_error
@@ -31,38 +31,38 @@ keys_by None = 1
 keys_by (Some k) = length k.names
 
 -- a column as it is written, in this part
-abbrev pub column_as : Role → ColumnText → ColumnDef
+abbrev pub column_as : Role → PlainColumn → ColumnDef
 column_as r c = record { name = c.name; kind = c.kind; nullable = c.nullable; role = r; default = None }
 
 -- the first columns are keys
-abbrev pub columns_by : ℕ → List ColumnText → List ColumnDef
+abbrev pub columns_by : ℕ → List PlainColumn → List ColumnDef
 columns_by n [] = []
 columns_by zero (c ∷ cs) = column_as role.Plain c ∷ columns_by zero cs
 columns_by (suc n) (c ∷ cs) = column_as role.Key c ∷ columns_by n cs
 
-abbrev pub shape_by : TableDef → ShapeView
+abbrev pub shape_by : PlainDef → ShapeView
 shape_by def = record { model = model_by def.key; columns = columns_by (keys_by def.key) def.columns }
 
 -- without BUCKETS there are ten
-abbrev pub buckets_by : TableDef → ℕ
+abbrev pub buckets_by : PlainDef → ℕ
 buckets_by def = unwrap_or def.buckets 10
 
 -- one partition with the table's name
-abbrev pub layout_by : List ℕ → TableDef → LayoutView
+abbrev pub layout_by : List ℕ → PlainDef → LayoutView
 layout_by table def = whole table def.hash (buckets_by def)
 
 -- the position of the first name of a key list that is not that of the column in its place
-abbrev pub first_differs : ℕ → List (List ℕ) → List ColumnText → Option ℕ
+abbrev pub first_differs : ℕ → List (List ℕ) → List PlainColumn → Option ℕ
 first_differs n [] columns = None
 first_differs n (k ∷ ks) [] = Some n
 first_differs n (k ∷ ks) (c ∷ cs) = cond (same k c.name) (first_differs (n + 1) ks cs) (Some n)
 
-abbrev pub key_differs : Option KeyClause → List ColumnText → Option ℕ
+abbrev pub key_differs : Option KeyClause → List PlainColumn → Option ℕ
 key_differs None columns = None
 key_differs (Some k) columns = first_differs 0 k.names columns
 
 -- a key list names the first columns, in their order
-abbrev pub key_fault : TableDef → Option DefError
+abbrev pub key_fault : PlainDef → Option DefError
 key_fault def = option_map (λ n. def_error.Shape (shape_error.KeyAfterValue n)) (key_differs def.key def.columns)
 
 -- a distribution column is one of the table's
@@ -94,7 +94,7 @@ abbrev pub layout_fault : ShapeView → List (List ℕ) → ℕ → Option Layou
 layout_fault s hash buckets = first_of (layout_faults s hash buckets)
 
 -- the first thing that is wrong with a definition: with its key list, its columns, its layout
-abbrev pub def_fault : TableDef → Option DefError
+abbrev pub def_fault : PlainDef → Option DefError
 def_fault def = first_of
     (key_fault def ∷ option_map def_error.Shape (shape_fault (shape_by def).model (shape_by def).columns)
     ∷ option_map def_error.Layout (layout_fault (shape_by def) def.hash (buckets_by def)) ∷ [])

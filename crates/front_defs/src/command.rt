@@ -1,7 +1,7 @@
 // What the core of the service is asked.
 use dl_values::Name;
 use shadow_writes::Built;
-use sql_text::{Query, TableDef};
+use sql_text::{PlainDef, Query};
 
 /// A command of the core. Moments are in seconds.
 #[derive(Drop)]
@@ -13,7 +13,7 @@ pub enum Command {
     CreateTable {
         db: Name,
         table: Name,
-        def: TableDef,
+        def: PlainDef,
         if_not_exists: bool,
     },
     /// Begins a load. Without a label it gets one from its number.

@@ -12,7 +12,7 @@ use Rattle.labels.specs.declared.txn_state.TxnState.TheVariants as state
 use Rattle.schema_models.specs.Faults.{refuse_if, first_of}
 use Rattle.schema_models.specs.Names.{is_name}
 use Rattle.schema_models.specs.ShapeRules.{shape_fault}
-use Rattle.sql_text.specs.declared.table_def.TableDef.{TableDef}
+use Rattle.sql_text.specs.declared.plain_def.PlainDef.{PlainDef}
 use Rattle.table_defs.specs.declared.def_error.DefError.{DefError}
 use Rattle.table_defs.specs.declared.def_error.DefError.TheVariants as def_error
 use Rattle.front_defs.specs.declared.event.Event.{Event}
@@ -57,7 +57,7 @@ mapped_none : {X Y : Type 0} (f : X → Y) (o : Option X) → option_map f o ≡
 mapped_none f None h = refl
 mapped_none f (Some x) h = absurd (cc)
 
-def_accepted : (def : TableDef) → refused_def def ≡ None → def_fault def ≡ None
+def_accepted : (def : PlainDef) → refused_def def ≡ None → def_fault def ≡ None
 def_accepted def h = go (def_fault def) h
   where
     go : (o : Option DefError) → refused_by o ≡ None → o ≡ None

@@ -4,7 +4,7 @@ use Rattle.std.specs.Prelude.{◌+◌, nat_le, length}
 use Rattle.dl_values.specs.declared.cell.Cell.{Cell}
 use Rattle.schema_models.specs.Faults.{refuse_if, first_of}
 use Rattle.schema_models.specs.Names.{is_name}
-use Rattle.sql_text.specs.declared.table_def.TableDef.{TableDef}
+use Rattle.sql_text.specs.declared.plain_def.PlainDef.{PlainDef}
 use Rattle.table_defs.specs.declared.def_error.DefError.{DefError}
 use Rattle.front_defs.specs.declared.event.Event.{Event}
 use Rattle.front_defs.specs.declared.event.Event.TheVariants as event
@@ -37,7 +37,7 @@ refuse_some P false x p = tt
 abbrev Stays : List Event → Command → Reply → Type 0
 Stays Es c x = outcome x ≡ Well → acted Es c ≡ []
 
-def_stays : (Es : List Event) (c : Command) (def : TableDef) → IfSome (refused_def def) (Stays Es c)
+def_stays : (Es : List Event) (c : Command) (def : PlainDef) → IfSome (refused_def def) (Stays Es c)
 def_stays Es c def = go (def_fault def)
   where
     go : (o : Option DefError) → IfSome (refused_by o) (Stays Es c)
@@ -124,7 +124,7 @@ all_not_begun os all ok r a b =
       | inr m ↦ elim (first_or NotBegun os (ok r) r all m) [ inl q ↦ q | inr n ↦ absurd (cc (n, b)) ]
     ]
 
-def_not_begun : (def : TableDef) → IfSome (refused_def def) NotBegun
+def_not_begun : (def : PlainDef) → IfSome (refused_def def) NotBegun
 def_not_begun def = go (def_fault def)
   where
     go : (o : Option DefError) → IfSome (refused_by o) NotBegun

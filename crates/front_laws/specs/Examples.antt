@@ -5,8 +5,8 @@ use Rattle.dl_values.specs.declared.cell.Cell.TheVariants as cell
 use Rattle.dl_values.specs.declared.col_type.ColType.TheVariants as kind
 use Rattle.schema_models.specs.declared.model.Model.TheVariants as model
 use Rattle.schema_models.specs.Folds.{fold_of}
-use Rattle.sql_text.specs.declared.table_def.TableDef.{TableDef}
-use Rattle.sql_text.specs.declared.table_def.ColumnText.{ColumnText}
+use Rattle.sql_text.specs.declared.plain_def.PlainDef.{PlainDef}
+use Rattle.sql_text.specs.declared.plain_def.PlainColumn.{PlainColumn}
 use Rattle.sql_text.specs.declared.query.Query.{Query}
 use Rattle.shadow_writes.specs.declared.plan.Plan.{Plan}
 use Rattle.shadow_writes.specs.declared.built.Built.{Built}
@@ -39,10 +39,10 @@ abbrev pub v : List ℕ
 v = 118 ∷ []
 
 -- `(k INT, v INT) DUPLICATE KEY(k) DISTRIBUTED BY HASH(k) BUCKETS 1`
-abbrev pub int_column : List ℕ → ColumnText
+abbrev pub int_column : List ℕ → PlainColumn
 int_column name = record { name = name; kind = kind.Int; nullable = true }
 
-abbrev pub def : TableDef
+abbrev pub def : PlainDef
 def = record { columns = int_column k ∷ int_column v ∷ []; key = Some (record { model = model.Duplicate; names = k ∷ [] }); hash = k ∷ []; buckets = Some 1 }
 
 -- the plan of a load of the table
@@ -158,10 +158,10 @@ abbrev pub Reads : List Entry → List (List Cell) → Type 0
 Reads H shown = (r : Reply) → Answer (happened H) select r → (r ≡ reply.NoMemory) ⊎ ShowsRows shown r
 
 -- the definition with another hash column, and with a column twice
-abbrev pub hashed_by_x : TableDef
+abbrev pub hashed_by_x : PlainDef
 hashed_by_x = record def { hash = (120 ∷ []) ∷ [] }
 
-abbrev pub twice_k : TableDef
+abbrev pub twice_k : PlainDef
 twice_k = record def { columns = int_column k ∷ int_column k ∷ [] }
 
 -- a script that publishes one load and responds with the reply

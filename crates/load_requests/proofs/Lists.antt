@@ -3,7 +3,7 @@ use Rattle.std.proofs.Common.{◌≡◌, ◌<◌, ◌≤◌, ◌∙◌, ℕ, Boo
 use Rattle.std.specs.Prelude.{codes, if◌then◌else◌}
 use Rattle.dl_values.specs.declared.col_type.ColType.{ColType}
 use Rattle.dl_values.specs.declared.col_type.ColType.TheVariants as type
-use Rattle.sql_text.specs.declared.table_def.ColumnText.{ColumnText}
+use Rattle.sql_text.specs.declared.plain_def.PlainColumn.{PlainColumn}
 use Rattle.load_requests.specs.Tokens.{Token}
 use Rattle.load_requests.specs.declared.stop.Stop.{Stop}
 use Rattle.load_requests.specs.declared.stop.Stop.TheVariants as stop
@@ -139,10 +139,10 @@ names_are = record { law = names_law; leaves = name_leaves }
 abbrev typed : Bool → Bool → List Token → Option (ColType × List Token)
 typed i b ts = if i then Some (type.Int, ts) else if b then Some (type.BigInt, ts) else None
 
-abbrev made : List ℕ → ColType → ColumnText
+abbrev made : List ℕ → ColType → PlainColumn
 made name kind = record { name = name; kind = kind; nullable = true }
 
-abbrev column_by : Bool → Bool → Bool → Token → List Token → Option (ColumnText × List Token)
+abbrev column_by : Bool → Bool → Bool → Token → List Token → Option (PlainColumn × List Token)
 column_by n i b t ts = if n then bind (typed i b ts) (λ kind. is (made t.1 kind)) else None
 
 column_named : (n : Bool) (t k : Token) (ts : List Token) → bind (named n t (k ∷ ts)) (λ name rest. bind (type_at rest) (λ kind. is (made name kind))) ≡ column_by n (is_plain (codes "INT") k) (is_plain (codes "BIGINT") k) t ts
@@ -167,18 +167,18 @@ column_nowhere : column_at [] ≡ None
 unfolding column_at name_at
 column_nowhere = refl
 
-column_by_leaves : (n i b : Bool) (t k : Token) (ts rest : List Token) (x : ColumnText) → column_by n i b t ts ≡ Some (x, rest) → length rest ≤ length (t ∷ k ∷ ts)
+column_by_leaves : (n i b : Bool) (t k : Token) (ts rest : List Token) (x : PlainColumn) → column_by n i b t ts ≡ Some (x, rest) → length rest ≤ length (t ∷ k ∷ ts)
 column_by_leaves true true b t k ts rest x e = let same : ts ≡ rest = second (made t.1 type.Int) x ts rest e in rw (sym same) (omega arith)
 column_by_leaves true false true t k ts rest x e = let same : ts ≡ rest = second (made t.1 type.BigInt) x ts rest e in rw (sym same) (omega arith)
 column_by_leaves true false false t k ts rest x e = cc
 column_by_leaves false i b t k ts rest x e = cc
 
-column_leaves : (tokens rest : List Token) (x : ColumnText) → column_at tokens ≡ Some (x, rest) → length rest ≤ length tokens
+column_leaves : (tokens rest : List Token) (x : PlainColumn) → column_at tokens ≡ Some (x, rest) → length rest ≤ length tokens
 column_leaves [] rest x e = let none = column_nowhere in cc
 column_leaves (t ∷ []) rest x e = let none = column_alone t in cc
 column_leaves (t ∷ k ∷ ts) rest x e = column_by_leaves (is_name t) (is_plain (codes "INT") k) (is_plain (codes "BIGINT") k) t k ts rest x (sym (column_is t k ts) ∙ e)
 
-abbrev behind_column : Option (ColumnText × List Token) → Option (List ColumnText × List Token)
+abbrev behind_column : Option (PlainColumn × List Token) → Option (List PlainColumn × List Token)
 behind_column r = bind r (λ x us. bind (comma_at us) (others columns_at x))
 
 columns_end : (n i b : Bool) (t : Token) → None ≡ behind_column (column_by n i b t [])

@@ -10,9 +10,9 @@ use Rattle.std.specs.Str.{bytes_eq, str_eq_ignore_ascii_case}
 use Rattle.dl_values.specs.declared.col_type.ColType.{ColType}
 use Rattle.dl_values.specs.declared.col_type.ColType.TheVariants as type
 use Rattle.schema_models.specs.declared.model.Model.TheVariants as model
-use Rattle.sql_text.specs.declared.table_def.ColumnText.{ColumnText}
-use Rattle.sql_text.specs.declared.table_def.KeyClause.{KeyClause}
-use Rattle.sql_text.specs.declared.table_def.TableDef.{TableDef}
+use Rattle.sql_text.specs.declared.plain_def.PlainColumn.{PlainColumn}
+use Rattle.sql_text.specs.declared.key_clause.KeyClause.{KeyClause}
+use Rattle.sql_text.specs.declared.plain_def.PlainDef.{PlainDef}
 use Rattle.load_requests.specs.declared.token.Kind.TheVariants as kind
 use Rattle.load_requests.specs.declared.statement.Statement.{Statement}
 use Rattle.load_requests.specs.declared.statement.Statement.TheVariants as statement
@@ -92,7 +92,7 @@ unfoldable pub type_at : Reader ColType
 type_at [] = None
 type_at (t ∷ ts) = if is_plain (codes "INT") t then Some (type.Int, ts) else if is_plain (codes "BIGINT") t then Some (type.BigInt, ts) else None
 
-unfoldable pub column_at : Reader ColumnText
+unfoldable pub column_at : Reader PlainColumn
 column_at = do
   name ← name_at
   kind ← type_at
@@ -121,7 +121,7 @@ names_at (name ∷ []) = None
 names_at (name ∷ sign ∷ rest) = one_more (name_at (name ∷ [])) sign rest (names_at rest)
 
 -- columns with commas between them, up to the closing parenthesis
-unfoldable pub columns_at : Reader (List ColumnText)
+unfoldable pub columns_at : Reader (List PlainColumn)
 columns_at [] = None
 columns_at (name ∷ []) = None
 columns_at (name ∷ kind ∷ []) = None
@@ -159,7 +159,7 @@ hash_at = do
   names_at
 
 -- what stands behind the name of a table
-unfoldable pub table_def_at : Reader TableDef
+unfoldable pub table_def_at : Reader PlainDef
 table_def_at = do
   plain_at (codes "(")
   columns ← columns_at

@@ -9,7 +9,7 @@ use crate::stop::Stop;
 use crate::token::first_token;
 use dl_values::{ColType, Name, NoMemory};
 use schema_models::Model;
-use sql_text::{ColumnText, KeyClause, TableDef};
+use sql_text::{KeyClause, PlainColumn, PlainDef};
 use sqlite_items::Items;
 use std::alloc::Global;
 
@@ -116,12 +116,12 @@ fn names(alloc: Global, text: &[u8]) -> Result<(Items<Name>, &[u8]), Stop>
 }
 
 #[tactic(auto, unfolding(crate::specs::Statements::column_at))]
-fn column(alloc: Global, text: &[u8]) -> Result<(ColumnText, &[u8]), Stop>
+fn column(alloc: Global, text: &[u8]) -> Result<(PlainColumn, &[u8]), Stop>
     ensures { Gives (λ x. (x.0, tokens_of x.1.now)) result (column_at (tokens_of text.now)) }
 {
     let (name, rest) = name(alloc, text)?;
     let (kind, rest) = column_type(rest)?;
-    let column = ColumnText {
+    let column = PlainColumn {
         name,
         kind,
         nullable: true,
@@ -130,7 +130,7 @@ fn column(alloc: Global, text: &[u8]) -> Result<(ColumnText, &[u8]), Stop>
 }
 
 // Columns with commas between them, up to the closing parenthesis.
-fn columns(alloc: Global, text: &[u8]) -> Result<(Items<ColumnText>, &[u8]), Stop>
+fn columns(alloc: Global, text: &[u8]) -> Result<(Items<PlainColumn>, &[u8]), Stop>
     ensures { Gives (λ x. (x.0, tokens_of x.1.now)) result (columns_at (tokens_of text.now)) }
 {
     let mut found = Items::new(alloc);
@@ -175,7 +175,7 @@ fn hash(alloc: Global, text: &[u8]) -> Result<(Items<Name>, &[u8]), Stop>
 
 // What stands behind the name of a table.
 #[tactic(auto, unfolding(crate::specs::Statements::table_def_at))]
-fn table_def(alloc: Global, text: &[u8]) -> Result<(TableDef, &[u8]), Stop>
+fn table_def(alloc: Global, text: &[u8]) -> Result<(PlainDef, &[u8]), Stop>
     ensures { Gives (λ x. (x.0, tokens_of x.1.now)) result (table_def_at (tokens_of text.now)) }
 {
     let rest = skip(text, b"(")?;
@@ -184,7 +184,7 @@ fn table_def(alloc: Global, text: &[u8]) -> Result<(TableDef, &[u8]), Stop>
     let (hash, rest) = hash(alloc, rest)?;
     let rest = skip(rest, b"BUCKETS")?;
     let rest = one(rest)?;
-    let def = TableDef {
+    let def = PlainDef {
         columns,
         key: Some(key),
         hash,

@@ -1,7 +1,7 @@
 // What a request asks for.
 use csv_load::Options;
 use dl_values::{Name, Text};
-use sql_text::TableDef;
+use sql_text::PlainDef;
 
 /// What a request asks for.
 #[derive(Debug, Drop)]
@@ -26,7 +26,7 @@ pub enum Request {
     CreateTable {
         db: Name,
         table: Name,
-        def: TableDef,
+        def: PlainDef,
     },
     Select {
         db: Name,

@@ -16,7 +16,7 @@ use dl_values::{Name, NoMemory, Text};
 use front_defs::{Command, Reply, Turns};
 use reply_json::{render_done, render_refused};
 use reply_texts::refusal_text;
-use sql_text::TableDef;
+use sql_text::PlainDef;
 use std::alloc::Global;
 use std::sync::ledger::Ledger;
 
@@ -43,7 +43,7 @@ pub fn create_table<T: Turns, L: Ledger>(
     turns: &mut T,
     db: Name,
     table: Name,
-    def: TableDef,
+    def: PlainDef,
     steps: &mut Steps<L>,
 ) -> Answer
     ensures { (seen own : List Entry) → T.stands turns.old seen own → Answered (T.stands turns.new) seen own (Asks (command.CreateTable db table def false) after_create) (response_of result) }

@@ -3,7 +3,7 @@ use crate::{Request, read_request};
 use dl_outside::MemorySource;
 use dl_values::{ColType, Name, NoMemory};
 use http_wire::HttpReader;
-use sql_text::TableDef;
+use sql_text::PlainDef;
 use std::alloc::Global;
 use std::test::Fail;
 
@@ -21,7 +21,7 @@ fn add_names(line: &mut Vec<u8>, names: &[Name]) -> Result<(), NoMemory> {
     Ok(())
 }
 
-fn add_table(line: &mut Vec<u8>, def: &TableDef) -> Result<(), NoMemory> {
+fn add_table(line: &mut Vec<u8>, def: &PlainDef) -> Result<(), NoMemory> {
     for column in def.columns.as_slice() {
         let kind: &[u8] = match column.kind {
             ColType::Int => b" INT",
