@@ -7,3 +7,7 @@ pub mod Loads
 pub mod Opens
 pub mod Rows
 pub mod Halves
+pub mod Queued
+pub mod Due
+pub mod Labels
+pub mod Indexed

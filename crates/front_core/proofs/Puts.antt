@@ -13,6 +13,9 @@ use Rattle.front_laws.proofs.Lists.{each_imp, each_snoc, pairs_snoc, eq_is}
 use Rattle.front_core.specs.declared.kept.Kept.{Kept}
 use Rattle.front_core.specs.Seen.{seen, waits, Ascending, Below}
 use Rattle.front_core.specs.Parts.{given}
+use Rattle.front_core.specs.Queue.{binding}
+use Rattle.labels.specs.Labels.{finished}
+use Rattle.labels.specs.declared.txn_state.TxnState.{TxnState}
 
 -- the first place of a number
 pub record IsFirst (id i : ℕ) (d : Kept) (ks : List Kept) : Type 0 where
@@ -22,10 +25,10 @@ pub record IsFirst (id i : ℕ) (d : Kept) (ks : List Kept) : Type 0 where
 pub first_by : (id i : ℕ) (d : Kept) (ks : List Kept) → Some i ≡ position (λ (k : Kept). nat_eq k.id id) ks → IsFirst id i d ks
 first_by id i d ks e = let h = position-Some (λ (k : Kept). nat_eq k.id id) ks i d (sym e) in record { within = h.0; hit = h.1 }
 
-pub each_index : (P : Kept → Type 0) (ks : List Kept) (i : ℕ) (d : Kept) → i < length ks → Each P ks → P (get_or ks i d)
+pub each_index : {X : Type 0} (P : X → Type 0) (xs : List X) (i : ℕ) (d : X) → i < length xs → Each P xs → P (get_or xs i d)
 each_index P [] i d lt e = absurd (omega arith)
-each_index P (k ∷ ks) zero d lt e = e.0
-each_index P (k ∷ ks) (suc i) d lt e = each_index P ks i d (omega arith) e.1
+each_index P (x ∷ xs) zero d lt e = e.0
+each_index P (x ∷ xs) (suc i) d lt e = each_index P xs i d (omega arith) e.1
 
 -- a map that leaves those of other numbers as they are
 pub record Spares {Y : Type 0} (id : ℕ) (g : Kept → Y) (f : Y → Y) : Type 0 where
@@ -55,12 +58,15 @@ miss_step : (b : Bool) (n : ℕ) (r : Option ℕ) → cond b (Some n) r ≡ None
 miss_step true n r e = absurd (cc)
 miss_step false n r e = (refl, e)
 
-misses_from : (id n : ℕ) (ks : List Kept) → position_from (λ (k : Kept). nat_eq k.id id) n ks ≡ None → Each (λ (k : Kept). nat_eq k.id id ≡ false) ks
-misses_from id n [] e = tt
-misses_from id n (k ∷ ks) e = let h = miss_step (nat_eq k.id id) n (position_from (λ (k : Kept). nat_eq k.id id) (n + 1) ks) e in (h.0, misses_from id (n + 1) ks h.1)
+missed_from : (id n : ℕ) (ks : List Kept) → position_from (λ (k : Kept). nat_eq k.id id) n ks ≡ None → Each (λ (k : Kept). nat_eq k.id id ≡ false) ks
+missed_from id n [] e = tt
+missed_from id n (k ∷ ks) e = let h = miss_step (nat_eq k.id id) n (position_from (λ (k : Kept). nat_eq k.id id) (n + 1) ks) e in (h.0, missed_from id (n + 1) ks h.1)
+
+pub missed : (id : ℕ) (ks : List Kept) → None ≡ position (λ (k : Kept). nat_eq k.id id) ks → Each (λ (k : Kept). nat_eq k.id id ≡ false) ks
+missed id ks e = missed_from id 0 ks (sym (position_from-zero (λ (k : Kept). nat_eq k.id id) ks) ∙ sym e)
 
 pub misses : {Y : Type 0} (id : ℕ) (g : Kept → Y) (f : Y → Y) → Spares id g f → (ks : List Kept) → None ≡ position (λ (k : Kept). nat_eq k.id id) ks → map g ks ≡ map f (map g ks)
-misses id g f s ks e = sym (none_touched id g f s ks (misses_from id 0 ks (sym (position_from-zero (λ (k : Kept). nat_eq k.id id) ks) ∙ sym e)))
+misses id g f s ks e = sym (none_touched id g f s ks (missed id ks e))
 
 -- changes spare the others
 pub changed_spares : (id : ℕ) (f : Txn → Txn) → Spares id seen (changed id f)
@@ -68,6 +74,9 @@ changed_spares id f = record { other = λ k e. ap (λ (b : Bool). cond b (f (see
 
 pub given_spares : (id : ℕ) (rows : List (List Cell)) → Spares id waits (given id rows)
 given_spares id rows = record { other = λ k e. ap (λ (b : Bool). cond b (record { txn = k.id; rows = rows }) (waits k)) e }
+
+pub binding_spares : (id : ℕ) (s : TxnState) → Spares id binding (finished id s)
+binding_spares id s = record { other = λ k e. ap (λ (b : Bool). cond b (record (binding k) { state = s }) (binding k)) e }
 
 hit_is : {Y : Type 0} (b : Bool) (x y : Y) → b ≡ true → cond b x y ≡ x
 hit_is true x y e = refl
@@ -85,6 +94,13 @@ waiting_put id rows ks i d k a e at is =
     let h = first_by id i d ks e in
     put_there id waits (given id rows) (given_spares id rows) ks i d k a h.within h.hit
     (is ∙ ap (λ (x : Kept). record { txn = x.id; rows = rows }) at ∙ sym (hit_is (nat_eq (get_or ks i d).id id) (record { txn = (get_or ks i d).id; rows = rows }) (waits (get_or ks i d)) h.hit))
+
+-- the labels after it
+pub labels_put : (id : ℕ) (s : TxnState) (ks : List Kept) (i : ℕ) (d k : Kept) → Ascending ks → Some i ≡ position (λ (k : Kept). nat_eq k.id id) ks → d ≡ get_or ks i d → binding k ≡ record (binding d) { state = s } → map binding (slice_set ks i k) ≡ map (finished id s) (map binding ks)
+labels_put id s ks i d k a e at is =
+    let h = first_by id i d ks e in
+    put_there id binding (finished id s) (binding_spares id s) ks i d k a h.within h.hit
+    (is ∙ ap (λ (x : Kept). record (binding x) { state = s }) at ∙ sym (hit_is (nat_eq (get_or ks i d).id id) (record (binding (get_or ks i d)) { state = s }) (binding (get_or ks i d)) h.hit))
 
 -- a change keeps the order of the numbers
 each_set : (P : Kept → Type 0) (ks : List Kept) (i : ℕ) (k : Kept) → P k → Each P ks → Each P (slice_set ks i k)

@@ -2,3 +2,4 @@ pub mod Seen
 pub mod Refused
 pub mod Parts
 pub mod Made
+pub mod Queue

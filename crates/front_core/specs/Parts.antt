@@ -86,6 +86,14 @@ ended_at s at t = record t { state = s; since = at; rows = [] }
 abbrev pub ended : ℕ → TxnState → ℕ → TransactionsView → TransactionsView
 ended id s at v = record v { txns = map (changed id (ended_at s at)) v.txns; waiting = map (given id []) v.waiting }
 
+-- the load that is due is visible, if there is one
+abbrev pub published_as : Option Txn → ℕ → TransactionsView → TransactionsView
+published_as None at v = v
+published_as (Some t) at v = ended t.id state.Visible at v
+
+abbrev pub published : ℕ → TransactionsView → TransactionsView
+published at v = published_as (due v.txns) at v
+
 -- one list more, and higher versions
 pub record HasList (rows : List (List Cell)) (old new : TabletLists) : Type 0 where
   pub table : new.table ≡ old.table

@@ -1,6 +1,9 @@
 // Changing one of the kept transactions, found by its number.
-ghost use Rattle.std.specs.Prelude.{◌≡◌, ℕ, None, [], map, true};
-ghost use Rattle.front_defs.specs.Transactions.{changed};
+ghost use Rattle.std.specs.Prelude.{◌≡◌, ◌+◌, ◌++◌, ◌∷◌, ℕ, List, IfSome, None, [], false, map, true};
+ghost use Rattle.labels.specs.Labels.{finished};
+ghost use Rattle.front_defs.specs.Transactions.{changed, is_committed};
+ghost use Rattle.front_core.specs.declared.waiter.Waiter.{Waiter};
+ghost use Rattle.front_core.specs.Queue.{IsQueue, IsOpen, binding, slot_at, waiters_by};
 ghost use Rattle.front_core.specs.Parts as parts;
 ghost use Rattle.front_core.specs.Parts.{ended_at, given, submitted_at};
 ghost use Rattle.front_core.specs.Seen.{folded_in, rows_in, seen, waits, Ascending, Below};
@@ -32,7 +35,8 @@ impl Kept {
     }
 }
 
-fn state_by(placed: Option<Placed>) -> TxnState
+// The state of a load whose rows are there.
+pub fn state_by(placed: Option<Placed>) -> TxnState
     ensures { result ≡ parts.state_by placed }
 {
     match placed {
@@ -55,6 +59,9 @@ pub fn end(kept: &mut Vec<Kept>, id: u64, state: TxnState, at: u64)
     requires { Ascending kept.old.items }
     ensures txns { map seen kept.new.items ≡ map (changed id (ended_at state at)) (map seen kept.old.items) }
     ensures waiting { map waits kept.new.items ≡ map (given id []) (map waits kept.old.items) }
+    ensures labels { map binding kept.new.items ≡ map (finished id state) (map binding kept.old.items) }
+    ensures queue { (q : List Waiter) (last : ℕ) → is_committed state ≡ false → slot_at id kept.old.items ≡ None → IsQueue kept.old.items q last → IsQueue kept.new.items q last }
+    ensures first { (w : Waiter) (q : List Waiter) (last : ℕ) → is_committed state ≡ false → w.txn ≡ id → IsQueue kept.old.items (w ∷ q) last → IsQueue kept.new.items q last }
     ensures ascends { Ascending kept.new.items }
     ensures below { (n : ℕ) → Below n kept.old.items → Below n kept.new.items }
 {
@@ -69,6 +76,8 @@ pub fn submit(kept: &mut Vec<Kept>, id: u64, held: Option<Held>, placed: Option<
     requires { Ascending kept.old.items }
     ensures txns { map seen kept.new.items ≡ map (changed id (submitted_at placed (rows_in held) at)) (map seen kept.old.items) }
     ensures waiting { map waits kept.new.items ≡ map (given id (folded_in held)) (map waits kept.old.items) }
+    ensures labels { map binding kept.new.items ≡ map (finished id (parts.state_by placed)) (map binding kept.old.items) }
+    ensures queue { (q : List Waiter) (last : ℕ) → IfSome placed (λ p. p.place ≡ last + 1) → IsOpen id kept.old.items → IsQueue kept.old.items q last → IsQueue kept.new.items (q ++ waiters_by placed id) (parts.places_by placed last) }
     ensures ascends { Ascending kept.new.items }
     ensures below { (n : ℕ) → Below n kept.old.items → Below n kept.new.items }
 {

@@ -19,7 +19,8 @@ pub fn place_of(kept: &[Kept], id: u64) -> Option<usize>
     }
 }
 
-fn kept_at(kept: &[Kept], id: u64) -> Option<&Kept>
+// The transaction of a number, as it is kept.
+pub fn kept_at(kept: &[Kept], id: u64) -> Option<&Kept>
     requires { Ascending kept.now }
     ensures { option_copied result ≡ find (λ k. nat_eq k.id id) kept.now }
 {

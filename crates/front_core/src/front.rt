@@ -316,7 +316,7 @@ impl Front {
         let place = load.place.unwrap_or(0);
         match store_held(self.alloc, &mut self.catalogue, load) {
             Ok(()) => {
-                self.transactions.end(txn, TxnState::Visible, at);
+                self.transactions.publish(at);
                 Reply::Published { txn, place }
             }
             Err(NoMemory) => Reply::NoMemory,
@@ -339,7 +339,7 @@ impl Front {
         };
         match state {
             TxnState::Prepare | TxnState::Precommitted => {
-                self.transactions.end(txn, TxnState::Aborted, at);
+                self.transactions.abort(txn, at);
                 Reply::Aborted { txn }
             }
             TxnState::Committed | TxnState::Visible | TxnState::Aborted => {

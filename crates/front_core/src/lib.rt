@@ -9,8 +9,10 @@ mod fitting;
 mod front;
 mod kept;
 mod names;
+#[cfg(test)]
 mod scans;
 mod transactions;
+mod waiter;
 
 pub use front::Front;
 pub use front_laws::laws;

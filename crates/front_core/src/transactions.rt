@@ -1,27 +1,34 @@
 // The transactions that are kept, and the numbers and places that come next.
-ghost use Rattle.std.specs.Prelude.{◌≡◌, ◌+◌, ◌++◌, ◌∷◌, [], map, OnOk, OnErr, IfSome, IfOk, Some, None, cond};
+ghost use Rattle.std.specs.Prelude.{◌≡◌, ◌+◌, ◌++◌, ◌∷◌, [], map, OnOk, OnErr, IfSome, IfOk, Some, None, cond, false};
 ghost use Rattle.std.specs.Option.{option_copied, option_map};
 ghost use Rattle.schema_models.specs.Faults.{first_of};
 ghost use Rattle.front_defs.specs.Answer.{Submits, submit_refusals};
 ghost use Rattle.front_defs.specs.Stands.{waiting_for};
-ghost use Rattle.front_defs.specs.Transactions.{due, ahead_of, label_of, txn_at, txn_by};
+ghost use Rattle.front_defs.specs.Transactions.{ahead_of, due, is_committed, label_of, txn_at, txn_by};
+ghost use Rattle.labels.specs.declared.txn_state.TxnState.TheVariants as state;
 ghost use Rattle.front_defs.specs.History.{outcome, Well, Refused, Faulted};
 ghost use Rattle.front_core.specs.Parts as parts;
-ghost use Rattle.front_core.specs.Parts.{Takes, begun, ended, range_for, submitted};
+ghost use Rattle.front_core.specs.Parts.{Takes, begun, ended, published, range_for, submitted};
+ghost use Rattle.front_core.specs.Queue.{waiters_by};
 ghost use Rattle.front_core.specs.Seen.{folded_in, rows_in, seen, waits};
 
 use crate::kept::{Held, Kept};
-use crate::{changes, finds, scans};
+use crate::waiter::Waiter;
+use crate::{changes, finds};
 use dl_values::{Name, NoMemory};
 use front_defs::{Placed, Reply, TxnKey};
-use labels::TxnState;
+use labels::{LabelBook, TxnState};
 use std::alloc::Global;
+use std::collections::VecDeque;
 use std::marker::Model;
 
-// The kept transactions by ascending number.
+// The kept transactions by ascending number. Nothing here goes through all of them: the numbers are halved, the labels
+// are in a book, and the committed loads in a queue by ascending place.
 #[derive(Drop)]
 pub struct Transactions {
     kept: Vec<Kept>,
+    book: LabelBook,
+    queue: VecDeque<Waiter>,
     range: u64,
     next: u64,
     places: u64,
@@ -30,13 +37,14 @@ pub struct Transactions {
 impl Model for Transactions {
     ghost use Rattle.std.specs.Prelude.{map};
     ghost use Rattle.front_core.specs.Parts.{TransactionsView};
-    ghost use Rattle.front_core.specs.Seen.{seen, waits, Ascending, Below};
+    ghost use Rattle.front_core.specs.Seen.{seen, waits};
+    ghost use Rattle.front_core.specs.Queue.{IsIndexed};
 
     ghost Value = { TransactionsView };
 
     ghost view = { λ t. record { txns = map seen t.kept.items; waiting = map waits t.kept.items; range = t.range; next = t.next; places = t.places } };
 
-    ghost invariant = { λ t. Ascending t.kept.items × Below t.next t.kept.items };
+    ghost invariant = { λ t. IsIndexed t.kept.items t.book t.queue.items t.next t.places };
 }
 
 // The end of the range of the next number, a new one where the last is used up.
@@ -55,6 +63,26 @@ fn places_by(placed: Option<Placed>, last: u64) -> u64
     match placed {
         None => last,
         Some(placed) => placed.place,
+    }
+}
+
+// Puts a load that has its place last in the queue.
+fn put_last(queue: &mut VecDeque<Waiter>, placed: Option<Placed>, id: u64) -> Result<(), NoMemory>
+    ensures ok { OnOk result (queue.new.items ≡ queue.old.items ++ waiters_by placed id) }
+    ensures err { OnErr result (queue.new.items ≡ queue.old.items) }
+{
+    match placed {
+        None => Ok(()),
+        Some(placed) => {
+            let waiter = Waiter {
+                place: placed.place,
+                txn: id,
+            };
+            match queue.push_back(waiter) {
+                Ok(()) => Ok(()),
+                Err(_) => Err(NoMemory),
+            }
+        }
     }
 }
 
@@ -77,6 +105,8 @@ impl Transactions {
     {
         Transactions {
             kept: Vec::new(alloc),
+            book: LabelBook::new(alloc),
+            queue: VecDeque::new(alloc),
             range: 0,
             next: 1,
             places: 0,
@@ -101,15 +131,13 @@ impl Transactions {
     pub fn label_state(&self, db: &Name, label: &Name) -> Option<(u64, TxnState)>
         ensures { result ≡ option_map (λ t. (t.id, t.state)) (label_of db.now label.now self.now.txns) }
     {
-        match scans::label_of(&self.kept, db, label) {
-            None => None,
-            Some(txn) => Some((txn.id, txn.state)),
-        }
+        self.book.state(db, label)
     }
 
-    // Begins a load with the next number.
+    // Begins a load with the next number. Room is made first, since want of memory has to change nothing.
     pub fn begin(&mut self, txn: Kept) -> Result<(), NoMemory>
-        requires { txn.id ≡ self.old.next }
+        requires number { txn.id ≡ self.old.next }
+        requires begins { txn.state ≡ state.Prepare }
         ensures ok { OnOk result (self.new ≡ begun (seen txn) (waits txn) self.old) }
         ensures err { OnErr result (self.new ≡ self.old) }
     {
@@ -121,6 +149,12 @@ impl Transactions {
             None => return Err(NoMemory),
             Some(next) => next,
         };
+        self.kept.reserve(1)?;
+        match self.book.bind(&txn.db, &txn.label, txn.id) {
+            Ok(()) => {}
+            // The front saw that the label is free: only memory can be short.
+            Err(_) => return Err(NoMemory),
+        }
         self.kept.push(txn)?;
         self.range = range;
         self.next = next;
@@ -132,24 +166,53 @@ impl Transactions {
         ensures value { option_map seen (option_copied result) ≡ due self.now.txns }
         ensures waits { IfSome result (λ k. waiting_for k.now.id self.now.waiting ≡ folded_in k.now.held) }
     {
-        scans::due(&self.kept)
+        match self.queue.front() {
+            None => None,
+            Some(waiter) => finds::kept_at(&self.kept, waiter.txn),
+        }
+    }
+
+    // The last transaction of a label.
+    fn last_of(&self, db: &Name, label: &Name) -> Option<&Kept>
+        ensures { option_map seen (option_copied result) ≡ label_of db.now label.now self.now.txns }
+    {
+        match self.book.state(db, label) {
+            None => None,
+            Some((id, _)) => finds::kept_at(&self.kept, id),
+        }
     }
 
     // A transaction of a database, by its number or as the last one of a label.
     pub fn txn_by(&self, db: &Name, key: &TxnKey) -> Option<&Kept>
-        ensures { option_map seen (option_copied result) ≡ txn_by db.now key.now self.now.txns }
+        ensures value { option_map seen (option_copied result) ≡ txn_by db.now key.now self.now.txns }
+        ensures number { IfSome result (λ k. txn_at k.now.id self.now.txns ≡ Some (seen k.now)) }
     {
         match key {
             TxnKey::Id(id) => finds::txn_of_db(&self.kept, db, *id),
-            TxnKey::Label(label) => scans::label_of(&self.kept, db, label),
+            TxnKey::Label(label) => self.last_of(db, label),
         }
     }
 
-    // Ends a transaction. It keeps no rows.
-    pub fn end(&mut self, id: u64, state: TxnState, at: u64)
-        ensures { self.new ≡ ended id state at self.old }
+    // Aborts a transaction, which keeps no rows. Condition: it is kept, and not committed.
+    pub fn abort(&mut self, id: u64, at: u64)
+        requires { option_map (λ t. is_committed t.state) (txn_at id self.old.txns) ≡ Some false }
+        ensures { self.new ≡ ended id state.Aborted at self.old }
     {
-        changes::end(&mut self.kept, id, state, at);
+        changes::end(&mut self.kept, id, TxnState::Aborted, at);
+        self.book.finish(id, TxnState::Aborted);
+    }
+
+    // Ends the load that is due, as a visible one. It keeps no rows.
+    pub fn publish(&mut self, at: u64)
+        ensures { self.new ≡ published at self.old }
+    {
+        match self.queue.pop_front() {
+            None => {}
+            Some(waiter) => {
+                changes::end(&mut self.kept, waiter.txn, TxnState::Visible, at);
+                self.book.finish(waiter.txn, TxnState::Visible);
+            }
+        }
     }
 
     // The next place and how many committed loads wait before it, for a one-phase load.
@@ -162,18 +225,30 @@ impl Transactions {
         match self.places.checked_add(1) {
             None => Err(NoMemory),
             Some(place) => {
-                let ahead = scans::ahead_of(&self.kept, place) as u64;
+                let ahead = self.queue.len() as u64;
                 Ok(Some(Placed { place, ahead }))
             }
         }
     }
 
-    // Takes the rows of a load, with its place.
-    fn commit(&mut self, id: u64, held: Option<Held>, placed: Option<Placed>, at: u64)
-        ensures { self.new ≡ submitted id placed (rows_in held) (folded_in held) at self.old }
+    // Takes the rows of a load, with its place. Conditions: it is kept and not committed, and the place is the next one.
+    fn commit(
+        &mut self,
+        id: u64,
+        held: Option<Held>,
+        placed: Option<Placed>,
+        at: u64,
+    ) -> Result<(), NoMemory>
+        requires waits { option_map (λ t. is_committed t.state) (txn_at id self.old.txns) ≡ Some false }
+        requires place { IfSome placed (λ p. p.place ≡ self.old.places + 1) }
+        ensures ok { OnOk result (self.new ≡ submitted id placed (rows_in held) (folded_in held) at self.old) }
+        ensures err { OnErr result (self.new ≡ self.old) }
     {
+        put_last(&mut self.queue, placed, id)?;
         changes::submit(&mut self.kept, id, held, placed, at);
+        self.book.finish(id, changes::state_by(placed));
         self.places = places_by(placed, self.places);
+        Ok(())
     }
 
     // Takes the rows of a begun load that has not expired.
@@ -192,10 +267,10 @@ impl Transactions {
         };
         match self.next_place(two_phase) {
             Err(NoMemory) => Reply::NoMemory,
-            Ok(placed) => {
-                self.commit(id, held, placed, at);
-                Reply::Submitted { placed }
-            }
+            Ok(placed) => match self.commit(id, held, placed, at) {
+                Err(NoMemory) => Reply::NoMemory,
+                Ok(()) => Reply::Submitted { placed },
+            },
         }
     }
 }

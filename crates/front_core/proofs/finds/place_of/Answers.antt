@@ -8,10 +8,10 @@ pub returns-in-Ok : goal.returns-in-Ok
 returns-in-Ok c =
     let facts = c.binary_search_by_key.ensures in
     let by_key = facts.position (λ (k : Kept). k.id) (answers_always _ _ _ (λ f a r g called. search rules)) in
-    rw c.in-Ok.is at (halved c.args.id c.args.kept.now c.binary_search_by_key.result c.requires facts.bound by_key)
+    rw c.in-Ok.is at (halved (λ (k : Kept). k.id) c.args.id c.args.kept.now c.binary_search_by_key.result c.requires facts.bound by_key)
 
 pub returns-in-Err : goal.returns-in-Err
 returns-in-Err c =
     let facts = c.binary_search_by_key.ensures in
     let by_key = facts.position (λ (k : Kept). k.id) (answers_always _ _ _ (λ f a r g called. search rules)) in
-    rw c.in-Err.is at (halved c.args.id c.args.kept.now c.binary_search_by_key.result c.requires facts.bound by_key)
+    rw c.in-Err.is at (halved (λ (k : Kept). k.id) c.args.id c.args.kept.now c.binary_search_by_key.result c.requires facts.bound by_key)
