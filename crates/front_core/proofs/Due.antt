@@ -23,10 +23,11 @@ self_step u k us lt f = let off : nat_eq u.id k.id ≡ false = grind (arith, nat
 
 pub each_self : (ks : List Kept) → Ascending ks → Each (λ (k : Kept). find (λ (x : Kept). nat_eq x.id k.id) ks ≡ Some k) ks
 each_self [] a = tt
-each_self (u ∷ us) a =
-    (let z : nat_eq u.id u.id ≡ true = grind (arith, nat_tests) in rw z refl,
-    each_imp (λ (k : Kept). (u.id < k.id) × (find (λ (x : Kept). nat_eq x.id k.id) us ≡ Some k)) (λ (k : Kept). find (λ (x : Kept). nat_eq x.id k.id) (u ∷ us) ≡ Some k) (λ k b. self_step u k us b.0 b.1) us
-    (each_both (λ (k : Kept). u.id < k.id) (λ (k : Kept). find (λ (x : Kept). nat_eq x.id k.id) us ≡ Some k) us a.0 (each_self us a.1)))
+each_self (u ∷ us) a = (
+  let z : nat_eq u.id u.id ≡ true = grind (arith, nat_tests) in rw z refl,
+  each_imp (λ (k : Kept). (u.id < k.id) × (find (λ (x : Kept). nat_eq x.id k.id) us ≡ Some k)) (λ (k : Kept). find (λ (x : Kept). nat_eq x.id k.id) (u ∷ us) ≡ Some k) (λ k b. self_step u k us b.0 b.1) us
+      (each_both (λ (k : Kept). u.id < k.id) (λ (k : Kept). find (λ (x : Kept). nat_eq x.id k.id) us ≡ Some k) us a.0 (each_self us a.1)),
+)
 
 slot_step : (b : Bool) (u k : Kept) (o : Option Kept) (s : Option ℕ) → cond b (Some u) o ≡ Some k → (o ≡ Some k → s ≡ slot k) → cond b (slot u) s ≡ slot k
 slot_step true u k o s e f = let i : u ≡ k = cc in ap slot i
@@ -96,10 +97,11 @@ record Head (ks : List Kept) (w : Waiter) (q : List Waiter) : Type 0 where
 
 head_of : (ks : List Kept) (w : Waiter) (q : List Waiter) (last : ℕ) → IsQueue ks (w ∷ q) last → Head ks w q
 head_of ks w q last h = record {
-    behind = h.rises.0;
-    at = h.filled.0;
-    none = lower_is w.place ks ∙ none_below w q ks h.rises.0 h.listed;
-    one = λ p lt. lower_is p ks ∙ one_below w.txn w.place p ks lt h.filled.0 }
+  behind = h.rises.0;
+  at = h.filled.0;
+  none = lower_is w.place ks ∙ none_below w q ks h.rises.0 h.listed;
+  one = λ p lt. lower_is p ks ∙ one_below w.txn w.place p ks lt h.filled.0;
+}
 
 first_alone : (ks : List Kept) (w : Waiter) (q : List Waiter) (n j : ℕ) (b : Bool) → Head ks w q → nat_eq j w.txn ≡ false → nat_eq w.place n ≡ b → cond b (Some w.txn) (waiter_at n q) ≡ Some j → not (has_lower (map seen ks) n) ≡ false
 first_alone ks w q n j true h e p l = absurd (let i : w.txn ≡ j = cc in grind (arith, nat_tests))
@@ -129,8 +131,8 @@ pub due_is : (ks : List Kept) (w : Waiter) (q : List Waiter) (last : ℕ) → As
 due_is ks w q last a h =
     let head = head_of ks w q last h in
     let firsts = each_imp (λ (k : Kept). (find (λ (x : Kept). nat_eq x.id k.id) ks ≡ Some k) × IsListed (w ∷ q) k.id (slot k)) (λ (k : Kept). (is_committed k.state && not (has_lower (map seen ks) (place_of (seen k)))) ≡ nat_eq k.id w.txn)
-        (λ k b. is_first ks w q (place_of (seen k)) k.id (is_committed k.state) (nat_eq k.id w.txn) head refl (slot_found k.id ks k b.0) b.1) ks
-        (each_both (λ (k : Kept). find (λ (x : Kept). nat_eq x.id k.id) ks ≡ Some k) (λ (k : Kept). IsListed (w ∷ q) k.id (slot k)) ks (each_self ks a) h.listed) in
+    (λ k b. is_first ks w q (place_of (seen k)) k.id (is_committed k.state) (nat_eq k.id w.txn) head refl (slot_found k.id ks k b.0) b.1) ks
+    (each_both (λ (k : Kept). find (λ (x : Kept). nat_eq x.id k.id) ks ≡ Some k) (λ (k : Kept). IsListed (w ∷ q) k.id (slot k)) ks (each_self ks a) h.listed) in
     sym (find_map seen (λ (t : Txn). is_committed t.state && not (has_lower (map seen ks) (place_of t))) ks ∙ ap (option_map seen) (find_same (λ (k : Kept). is_committed k.state && not (has_lower (map seen ks) (place_of (seen k)))) (λ (k : Kept). nat_eq k.id w.txn) ks firsts))
 
 unlisted : (n j : ℕ) (c b : Bool) → IsListed [] j (cond c (Some n) None) → (c && b) ≡ false

@@ -11,18 +11,14 @@ use Rattle.std.specs.Ordering.{nat_cmp, ordering_index}
 use Rattle.std.specs.Option.{option_map}
 use Rattle.front_defs.specs.Names.{same}
 use Rattle.front_defs.specs.declared.txn.Txn.{Txn}
-use Rattle.front_laws.specs.Tidy.{Each, Pairs}
+use Rattle.front_laws.specs.Tidy.{Each}
 use Rattle.front_laws.proofs.Lists.{each_imp, eq_is}
 use Rattle.front_core.specs.declared.kept.Kept.{Kept}
-use Rattle.front_core.specs.Seen.{Ascending, seen}
+use Rattle.front_core.specs.Seen.{Ascending, AscendsBy, seen}
 use Rattle.front_core.proofs.Puts.{each_index}
 
 higher : (a b x : ℕ) → a ≤ b → ordering_index (nat_cmp a x) ≤ ordering_index (nat_cmp b x)
 higher a b x le = grind (arith, nat_tests)
-
--- the numbers of a list ascend
-abbrev pub AscendsBy : {X : Type 0} → (X → ℕ) → List X → Type 0
-AscendsBy key xs = Pairs (λ a b. key a < key b) xs
 
 rises : {X : Type 0} (key : X → ℕ) (xs : List X) (i j : ℕ) (d : X) → AscendsBy key xs → i ≤ j → j < length xs → key (get_or xs i d) ≤ key (get_or xs j d)
 rises key [] i j d a le lt = absurd (omega arith)

@@ -16,7 +16,8 @@ begins_indexed ks k book q next places same begins h =
     let b : bound k.db k.label k.id ≡ binding k = rw begins refl in
     let off : is_committed k.state ≡ false = rw begins refl in
     record {
-    ascends = ascending_snoc next ks k same h.ascends h.below;
-    below = below_snoc next ks k same h.below;
-    labels = ap (λ (bs : List Binding). bs ++ bound k.db k.label k.id ∷ []) h.labels ∙ ap (λ (x : Binding). map binding ks ++ x ∷ []) b ∙ sym (map-append binding ks (k ∷ []));
-    queued = queue_begins ks k q places off h.queued }
+      ascends = ascending_snoc next ks k same h.ascends h.below;
+      below = below_snoc next ks k same h.below;
+      labels = ap (λ (bs : List Binding). bs ++ bound k.db k.label k.id ∷ []) h.labels ∙ ap (λ (x : Binding). map binding ks ++ x ∷ []) b ∙ sym (map-append binding ks (k ∷ []));
+      queued = queue_begins ks k q places off h.queued;
+    }

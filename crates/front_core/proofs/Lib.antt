@@ -11,3 +11,4 @@ pub mod Queued
 pub mod Due
 pub mod Labels
 pub mod Indexed
+pub mod Named

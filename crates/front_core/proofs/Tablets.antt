@@ -8,6 +8,7 @@ use Rattle.front_defs.specs.Stands.{stored_for, lists_in, versions_in}
 use Rattle.front_laws.specs.Tidy.{Each}
 use Rattle.front_laws.proofs.Lists.{each_imp, each_snoc}
 use Rattle.front_core.specs.Parts.{HasList, Stores}
+use Rattle.front_core.specs.Seen.{AscendsBy}
 
 abbrev Known : ℕ → List TabletLists → Type 0
 Known last ks = Each (λ (k : TabletLists). k.table ≤ last) ks
@@ -93,3 +94,19 @@ known_there last table i rows d y ks e at h k =
     let le = known_index last ks i d f.within k in
     let same : y.table ≡ (get_or ks i d).table = h.table ∙ ap (λ (x : TabletLists). x.table) at in
     known_set last ks i y (omega (arith, same, le)) k
+
+-- a list more keeps the numbers
+kept_above : (n : ℕ) (ks : List TabletLists) (i : ℕ) (d y : TabletLists) → i < length ks → y.table ≡ (get_or ks i d).table → Each (λ (k : TabletLists). n < k.table) ks → Each (λ (k : TabletLists). n < k.table) (slice_set ks i y)
+kept_above n [] i d y lt e a = absurd (omega arith)
+kept_above n (k ∷ ks) zero d y lt e a = (let h = a.0 in omega (arith, e, h), a.1)
+kept_above n (k ∷ ks) (suc i) d y lt e a = (a.0, kept_above n ks i d y (omega arith) e a.1)
+
+ascends_set : (ks : List TabletLists) (i : ℕ) (d y : TabletLists) → i < length ks → y.table ≡ (get_or ks i d).table → AscendsBy (λ (k : TabletLists). k.table) ks → AscendsBy (λ (k : TabletLists). k.table) (slice_set ks i y)
+ascends_set [] i d y lt e a = absurd (omega arith)
+ascends_set (k ∷ ks) zero d y lt e a = (each_imp (λ (v : TabletLists). k.table < v.table) (λ (v : TabletLists). y.table < v.table) (λ v h. omega (arith, e, h)) ks a.0, a.1)
+ascends_set (k ∷ ks) (suc i) d y lt e a = (kept_above k.table ks i d y (omega arith) e a.0, ascends_set ks i d y (omega arith) e a.1)
+
+pub ascends_there : (table i : ℕ) (d y : TabletLists) (ks : List TabletLists) → Some i ≡ position (λ (k : TabletLists). nat_eq k.table table) ks → d ≡ get_or ks i d → y.table ≡ d.table → AscendsBy (λ (k : TabletLists). k.table) ks → AscendsBy (λ (k : TabletLists). k.table) (slice_set ks i y)
+ascends_there table i d y ks e at same a =
+    let f = first_by table i d ks e in
+    ascends_set ks i d y f.within (same ∙ ap (λ (k : TabletLists). k.table) at) a

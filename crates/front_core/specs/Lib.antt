@@ -3,3 +3,4 @@ pub mod Refused
 pub mod Parts
 pub mod Made
 pub mod Queue
+pub mod Catalogued

@@ -25,9 +25,12 @@ seen k = record { id = k.id; db = k.db; table = k.table; label = k.label; state 
 abbrev pub waits : Kept → WaitingRows
 waits k = record { txn = k.id; rows = folded_in k.held }
 
--- their numbers ascend
+-- numbers of theirs ascend
+abbrev pub AscendsBy : {X : Type 0} → (X → ℕ) → List X → Type 0
+AscendsBy key xs = Pairs (λ a b. key a < key b) xs
+
 abbrev pub Ascending : List Kept → Type 0
-Ascending ks = Pairs (λ (a b : Kept). a.id < b.id) ks
+Ascending ks = AscendsBy (λ (k : Kept). k.id) ks
 
 -- and are below the next one
 abbrev pub Below : ℕ → List Kept → Type 0

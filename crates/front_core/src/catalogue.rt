@@ -1,15 +1,20 @@
 // The databases and the tables, and what is stored of the tables.
-ghost use Rattle.std.specs.Prelude.{◌≡◌, ◌≤◌, ◌+◌, ℕ, ◌++◌, ◌∷◌, [], map, OnOk, OnErr, IfOk, length, position, nat_eq};
+ghost use Rattle.std.specs.Prelude.{◌≡◌, ◌&&◌, ◌≤◌, ◌+◌, ℕ, ◌++◌, ◌∷◌, [], map, OnOk, OnErr, IfOk, None, false, length, position, nat_eq};
+ghost use Rattle.std.specs.List.{list_any};
+ghost use Rattle.std.specs.Map.{lookup};
 ghost use Rattle.std.specs.Option.{option_copied};
+ghost use Rattle.std.specs.Str.{bytes_eq};
 ghost use Rattle.front_defs.specs.Catalogue as defs;
 ghost use Rattle.front_defs.specs.Stands.{stored_for, lists_in};
 ghost use Rattle.front_laws.specs.Tidy.{Each};
+ghost use Rattle.front_core.specs.Seen.{AscendsBy};
 ghost use Rattle.front_core.specs.Parts.{HasList, Stores, table_added, table_of};
 
 use crate::defined::Defined;
-use crate::names::has_name;
+use crate::table_key::{TableKey, TableRef};
 use dl_values::{Name, NoMemory};
 use front_defs::{SchemaStep, Table, TabletLists};
+use indexmap::{IndexMap, IndexSet};
 use rowsets::Rowset;
 use schema_models::Shape;
 use sqlite_items::Items;
@@ -17,25 +22,26 @@ use std::alloc::Global;
 use std::marker::Model;
 use std::sync::Arc;
 
-// What stands in the catalogue.
+// What stands in the catalogue, each by its name, and what is stored by the number of its table.
 #[derive(Drop)]
 pub struct Catalogue {
-    databases: Items<Name>,
-    tables: Items<Table>,
+    databases: IndexSet<Name>,
+    tables: IndexMap<TableKey, Table>,
     last_table: u64,
+    // by ascending number of the table
     tablets: Vec<TabletLists>,
 }
 
 impl Model for Catalogue {
-    ghost use Rattle.std.specs.Prelude.{◌≤◌};
-    ghost use Rattle.front_laws.specs.Tidy.{Each};
+    ghost use Rattle.indexmap.specs.IndexMap.{values};
+    ghost use Rattle.front_core.specs.Catalogued.{IsCatalogued};
     ghost use Rattle.front_core.specs.Parts.{CatalogueView};
 
     ghost Value = { CatalogueView };
 
-    ghost view = { λ c. record { databases = c.databases; tables = c.tables; last_table = c.last_table; tablets = c.tablets.items } };
+    ghost view = { λ c. record { databases = c.databases.keys; tables = values c.tables; last_table = c.last_table; tablets = c.tablets.items } };
 
-    ghost invariant = { λ c. Each (λ k. k.table ≤ c.last_table) c.tablets.items };
+    ghost invariant = { λ c. IsCatalogued c.tables.entries c.tablets.items c.last_table };
 }
 
 impl Catalogue {
@@ -43,8 +49,8 @@ impl Catalogue {
         ensures { result ≡ record { databases = []; tables = []; last_table = 0; tablets = [] } }
     {
         Catalogue {
-            databases: Items::new(alloc),
-            tables: Items::new(alloc),
+            databases: IndexSet::new(alloc),
+            tables: IndexMap::new(alloc),
             last_table: 0,
             tablets: Vec::new(alloc),
         }
@@ -60,7 +66,7 @@ impl Catalogue {
     pub fn has_db(&self, name: &Name) -> bool
         ensures { result ≡ defs.has_db name.now self.now.databases }
     {
-        has_name(self.databases.as_slice(), name)
+        self.databases.contains(name)
     }
 
     pub fn databases(&self) -> usize
@@ -78,21 +84,20 @@ impl Catalogue {
     pub fn table(&self, db: &Name, name: &Name) -> Option<&Table>
         ensures { option_copied result ≡ defs.table_named db.now name.now self.now.tables }
     {
-        self.tables
-            .as_slice()
-            .iter()
-            .find(|t| t.db == *db && t.name == *name)
+        self.tables.get(TableRef { db, name })
     }
 
+    // Adds a database. Condition: there is none of the name.
     pub fn add_db(&mut self, name: Name) -> Result<(), NoMemory>
+        requires { defs.has_db name self.old.databases ≡ false }
         ensures ok { OnOk result (self.new ≡ record self.old { databases = self.old.databases ++ name ∷ [] }) }
         ensures err { OnErr result (self.new ≡ self.old) }
     {
-        self.databases.push(name)?;
-        Ok(())
+        put_db(&mut self.databases, name)
     }
 
-    // Adds a table behind the last one. Nothing is stored of it, and its one partition has version 1.
+    // Adds a table behind the last one. Nothing is stored of it, and its one partition has version 1. Condition: there is
+    // none of the name. Room is made first, since want of memory has to change nothing.
     pub fn add_table(
         &mut self,
         alloc: Global,
@@ -100,6 +105,7 @@ impl Catalogue {
         name: Name,
         made: Defined,
     ) -> Result<(), NoMemory>
+        requires { defs.table_named db name self.old.tables ≡ None }
         ensures ok { OnOk result (self.new ≡ table_added db name made self.old) }
         ensures err { OnErr result (self.new ≡ self.old) }
     {
@@ -107,20 +113,14 @@ impl Catalogue {
             Some(number) => number,
             None => return Err(NoMemory),
         };
+        let key = TableKey::new(alloc, &db, &name)?;
         let table = new_table(alloc, number, db, name, made)?;
         let tablets = new_tablets(alloc, number)?;
-        let before = self.tablets.len();
+        self.tablets.reserve(1)?;
+        put_table(&mut self.tables, key, table)?;
         self.tablets.push(tablets)?;
-        match self.tables.push(table) {
-            Ok(()) => {
-                self.last_table = number;
-                Ok(())
-            }
-            Err(_) => {
-                self.tablets.truncate(before);
-                Err(NoMemory)
-            }
-        }
+        self.last_table = number;
+        Ok(())
     }
 
     // Adds a list to what is stored of a table, and raises its versions.
@@ -140,6 +140,34 @@ impl Catalogue {
             None => Ok(Items::new(alloc)),
             Some(stored) => shared(alloc, stored.lists.as_slice()),
         }
+    }
+}
+
+// Puts a name behind the others. Condition: it is not there yet.
+fn put_db(databases: &mut IndexSet<Name>, name: Name) -> Result<(), NoMemory>
+    requires { list_any (λ n. bytes_eq name n) databases.old.keys ≡ false }
+    ensures ok { OnOk result (databases.new.keys ≡ databases.old.keys ++ name ∷ []) }
+    ensures err { OnErr result (databases.new.keys ≡ databases.old.keys) }
+{
+    match databases.insert(name) {
+        Ok(_) => Ok(()),
+        Err(_) => Err(NoMemory),
+    }
+}
+
+// Puts a table behind the others. Condition: its name is not there yet.
+fn put_table(
+    tables: &mut IndexMap<TableKey, Table>,
+    key: TableKey,
+    table: Table,
+) -> Result<(), NoMemory>
+    requires { lookup (λ k. bytes_eq key.db k.db && bytes_eq key.name k.name) tables.old.entries ≡ None }
+    ensures ok { OnOk result (tables.new.entries ≡ tables.old.entries ++ (key, table) ∷ []) }
+    ensures err { OnErr result (tables.new.entries ≡ tables.old.entries) }
+{
+    match tables.insert(key, table) {
+        Ok(_) => Ok(()),
+        Err(_) => Err(NoMemory),
     }
 }
 
@@ -181,16 +209,25 @@ fn new_tablets(alloc: Global, table: u64) -> Result<TabletLists, NoMemory>
     })
 }
 
-fn stored_of(tablets: &[TabletLists], table: u64) -> Option<&TabletLists>
-    ensures { option_copied result ≡ stored_for table tablets.now }
-{
-    tablets.iter().find(|k| k.table == table)
-}
-
+// The place of what is stored of a table.
 fn place_of(tablets: &[TabletLists], table: u64) -> Option<usize>
+    requires { AscendsBy (λ k. k.table) tablets.now }
     ensures { result ≡ position (λ k. nat_eq k.table table) tablets.now }
 {
-    tablets.iter().position(|k| k.table == table)
+    match tablets.binary_search_by_key(&table, |k| k.table) {
+        Ok(i) => Some(i),
+        Err(_) => None,
+    }
+}
+
+fn stored_of(tablets: &[TabletLists], table: u64) -> Option<&TabletLists>
+    requires { AscendsBy (λ k. k.table) tablets.now }
+    ensures { option_copied result ≡ stored_for table tablets.now }
+{
+    match place_of(tablets, table) {
+        None => None,
+        Some(i) => Some(&tablets[i]),
+    }
 }
 
 // The same lists, shared.
@@ -221,6 +258,7 @@ fn raised(alloc: Global, versions: &[u64]) -> Result<Items<u64>, NoMemory>
 // Adds a list, and raises the versions.
 fn add_list(alloc: Global, stored: &mut TabletLists, rowset: &Arc<Rowset>) -> Result<(), NoMemory>
     ensures ok { OnOk result (HasList rowset.now.value stored.old stored.new) }
+    ensures table { stored.new.table ≡ stored.old.table }
     ensures err { OnErr result (stored.new ≡ stored.old) }
 {
     let versions = raised(alloc, stored.versions.as_slice())?;
@@ -237,9 +275,11 @@ fn store_in(
     table: u64,
     rowset: &Arc<Rowset>,
 ) -> Result<(), NoMemory>
+    requires { AscendsBy (λ k. k.table) tablets.old.items }
     ensures ok { OnOk result (Stores table rowset.now.value tablets.old.items tablets.new.items) }
     ensures err { OnErr result (tablets.new.items ≡ tablets.old.items) }
     ensures known { (last : ℕ) → Each (λ k. k.table ≤ last) tablets.old.items → Each (λ k. k.table ≤ last) tablets.new.items }
+    ensures ascends { AscendsBy (λ k. k.table) tablets.new.items }
 {
     match place_of(tablets, table) {
         None => Err(NoMemory),

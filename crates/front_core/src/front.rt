@@ -1,40 +1,34 @@
 // The front: what stands in the service, and how it answers commands.
-ghost use Rattle.std.specs.Prelude.{◌≡◌, ◌≤◌, ℕ, [], ◌∷◌, List, Some, false, IfOk, IfErr, OnOk, OnErr, None, true};
-ghost use Rattle.front_defs.specs.Answer.{Aborts, Begins, CreatesDb, CreatesTable, Publishes, Submits, bad_label, label_for, placed_for, plan_of, used};
+ghost use Rattle.std.specs.Prelude.{◌≡◌, ℕ, [], ◌∷◌, List, false, true};
+ghost use Rattle.front_defs.specs.Answer.{Aborts, Begins, CreatesDb, CreatesTable, Publishes, Submits};
 ghost use Rattle.front_defs.specs.History.{outcome, Well, Refused, Faulted};
 ghost use Rattle.front_defs.specs.Catalogue.{table_named};
-ghost use Rattle.front_defs.specs.Transactions.{begun_txn, label_of, txn_at, txn_by};
-ghost use Rattle.front_core.specs.Parts.{BeginsLoad, EndsLoad, IsCalm, IsFront, IsPublished, TakesRows, Shares, SharesLists, StoresRows, is_fit, set_rows, with_db, with_table};
+ghost use Rattle.front_defs.specs.Transactions.{txn_at, txn_by};
+ghost use Rattle.front_core.specs.Parts.{BeginsLoad, EndsLoad, IsCalm, IsFront, IsPublished, TakesRows, Shares, is_fit, set_rows, with_db, with_table};
 ghost use Rattle.front_defs.specs.declared.history.Entry.{Entry};
 ghost use Rattle.front_defs.specs.declared.history.Entry.TheVariants.{Made};
 ghost use Rattle.front_defs.specs.Legal.{Legal};
 ghost use Rattle.front_defs.specs.May.{May};
 ghost use Rattle.front_defs.specs.Stands.{Stands};
 ghost use Rattle.front_core.specs.Made.{made};
-ghost use Rattle.front_core.specs.Refused.{RefusesLabel, held_refusal};
-ghost use Rattle.front_defs.specs.declared.reply.Reply.TheVariants as reply;
-ghost use Rattle.front_core.specs.Seen.{folded_in, kept_for, rows_in};
 ghost use Rattle.labels.specs.declared.txn_state.TxnState.TheVariants as state;
 
+use crate::begins::{begun, label_or_refusal, plan, used_refusal};
 use crate::catalogue::Catalogue;
 use crate::defined::define;
 use crate::fitting::held_of;
-use crate::kept::Kept;
-use crate::names::{auto_label, is_label};
+use crate::stored::{snapshot_of, store_held};
 use crate::transactions::Transactions;
 use dl_outside::Steps;
 use dl_values::{Name, NoMemory};
-use front_defs::{Command, Reply, Table, TxnKey};
+use front_defs::{Command, Reply, TxnKey};
 use front_laws::laws;
 use labels::TxnState;
-use merge_read::Snapshot;
-use rowsets::Rowset;
 use schema_models::is_name;
-use shadow_writes::{Built, Plan};
+use shadow_writes::Built;
 use sql_text::PlainDef;
 use std::alloc::Global;
 use std::marker::Model;
-use std::sync::Arc;
 use std::sync::ledger::Ledger;
 
 // At most so many databases, and so many tables in all.
@@ -55,114 +49,6 @@ impl Model for Front {
     ghost Value = { View };
 
     ghost view = { λ f. front_view f.catalogue f.transactions };
-}
-
-// The label that a load gets, or why the one that it asks for is refused.
-fn label_or_refusal(alloc: Global, label: Option<Name>, next: u64) -> Result<Name, Reply>
-    ensures ok { IfOk result (λ l. (l ≡ label_for label next) × (bad_label label ≡ None)) }
-    ensures err { IfErr result (RefusesLabel label) }
-{
-    match label {
-        None => match auto_label(alloc, next) {
-            Ok(label) => Ok(label),
-            Err(NoMemory) => Err(Reply::NoMemory),
-        },
-        Some(label) => {
-            if is_label(&label) {
-                Ok(label)
-            } else {
-                Err(Reply::BadLabel)
-            }
-        }
-    }
-}
-
-// Why a label that is held cannot be used.
-fn used_refusal(holder: Option<(u64, TxnState)>) -> Option<Reply>
-    ensures { result ≡ held_refusal holder }
-{
-    match holder {
-        None => None,
-        Some((txn, state)) => {
-            if state == TxnState::Aborted {
-                None
-            } else {
-                Some(Reply::Used { txn, state })
-            }
-        }
-    }
-}
-
-// The plan of a load of a table as it is now.
-fn plan(alloc: Global, txn: u64, table: &Table) -> Result<Plan, NoMemory>
-    ensures { IfOk result (λ p. p ≡ plan_of txn table.now) }
-{
-    let layout = table.layout.copy(alloc)?;
-    let base = table.shape.copy(alloc)?;
-    Ok(Plan {
-        txn,
-        schema: table.schema,
-        layout,
-        base,
-    })
-}
-
-// A transaction that begins.
-fn begun(
-    alloc: Global,
-    txn: u64,
-    table: &Table,
-    label: Name,
-    two_phase: bool,
-    at: u64,
-) -> Result<Kept, NoMemory>
-    ensures { IfOk result (λ k. k ≡ kept_for txn table.now label two_phase at) }
-{
-    let db = table.db.copy(alloc)?;
-    Ok(Kept {
-        id: txn,
-        db,
-        table: table.number,
-        label,
-        state: TxnState::Prepare,
-        since: at,
-        two_phase,
-        schema: table.schema,
-        place: None,
-        told: false,
-        held: None,
-    })
-}
-
-// The shapes of a table, and what is stored of it.
-fn snapshot_of(
-    alloc: Global,
-    catalogue: &Catalogue,
-    table: &Table,
-) -> Result<Snapshot<Arc<Rowset>>, NoMemory>
-    ensures { IfOk result (λ s. SharesLists table.now catalogue.now.tablets (reply.Snap s)) }
-{
-    let base = table.shape.copy(alloc)?;
-    let index = table.shape.copy(alloc)?;
-    let lists = catalogue.lists(alloc, table.number)?;
-    Ok(Snapshot { base, index, lists })
-}
-
-// Adds the rows of a load to what is stored of its table, where it has some.
-fn store_held(alloc: Global, catalogue: &mut Catalogue, load: &Kept) -> Result<(), NoMemory>
-    ensures ok { OnOk result (StoresRows load.now.table (rows_in load.now.held) (folded_in load.now.held) catalogue.old.tablets catalogue.new.tablets) }
-    ensures rest { catalogue.new ≡ record catalogue.old { tablets = catalogue.new.tablets } }
-    ensures err { OnErr result (catalogue.new ≡ catalogue.old) }
-{
-    match &load.held {
-        None => Ok(()),
-        Some(held) => {
-            if held.rows.rows().is_empty() {
-                return Ok(());
-            }
-            catalogue.store(alloc, load.table, &held.rowset)
-        }
-    }
 }
 
 impl Front {

@@ -1,6 +1,7 @@
 //! The core of the service: a front answers commands one at a time, and stands for the history of what it answered.
 #![tactic(auto)]
 
+mod begins;
 mod catalogue;
 mod changes;
 mod defined;
@@ -11,6 +12,8 @@ mod kept;
 mod names;
 #[cfg(test)]
 mod scans;
+mod stored;
+mod table_key;
 mod transactions;
 mod waiter;
 

@@ -1,8 +1,7 @@
-// Labels, and names among others.
+// Labels.
 ghost use Rattle.std.specs.Prelude.{◌≡◌, ◌++◌, IfOk};
 ghost use Rattle.std.specs.List.{list_all};
 ghost use Rattle.front_defs.specs.Names.{in_label, is_label as is_label_of, auto_label as auto_label_of};
-ghost use Rattle.front_defs.specs.Catalogue as catalogue;
 
 use dl_values::{Name, NoMemory};
 use itoa::Buffer;
@@ -39,11 +38,4 @@ pub fn auto_label(alloc: Global, id: u64) -> Result<Name, NoMemory>
     let mut text = Vec::from_slice(alloc, b"auto_")?;
     text.extend_from_slice(digits.format(id).as_bytes())?;
     Name::new(alloc, &text)
-}
-
-// Whether a name is among others.
-pub fn has_name(names: &[Name], name: &Name) -> bool
-    ensures { result ≡ catalogue.has_db name.now names.now }
-{
-    names.iter().any(|n| *n == *name)
 }

@@ -1,10 +1,21 @@
-use Rattle.std.proofs.Common.{◌≡◌, ◌+◌, ◌++◌, [], ◌∷◌, arith, rules}
-use Rattle.front_core.proofs.Tablets.{known_snoc}
+use Rattle.std.proofs.Common.{◌≡◌, ◌∙◌, ◌+◌, ◌++◌, ◌∷◌, [], None, arith, rules}
+use Rattle.std.specs.Map.{values_of}
+use Rattle.front_defs.specs.Catalogue.{table_named}
+use Rattle.front_core.specs.Catalogued.{key_of}
+use Rattle.front_core.proofs.Named.{table_is, table_more}
 use Rattle.front_core.proofs.catalogue.Catalogue.add_table.Goals as goal
 
-pub invariant_of-self-in-Ok : goal.invariant_of-self-in-Ok
-invariant_of-self-in-Ok c =
-    let e : c.push.new.self.items ≡ c.self.inside.tablets.items ++ c.in_ok-tablets.tablets ∷ [] = search rules in
+pub put_table-requires : goal.put_table-requires
+put_table-requires c =
+    let k : c.in_ok-key.key ≡ record { db = c.args.db; name = c.args.name } = search rules in
+    let r : table_named c.args.db c.args.name (values_of c.self.inside.tables.entries) ≡ None = rw (← c.self.view_is) at c.requires in
+    rw k (table_is c.args.db c.args.name c.self.inside.tables.entries c.self.invariant.keyed ∙ r)
+
+pub invariant_of-self-2 : goal.invariant_of-self-2
+invariant_of-self-2 c =
+    let e : c.put_table.new.tables.entries ≡ c.self.inside.tables.entries ++ (c.in_ok-key.key, c.in_ok-table.table) ∷ [] = search rules in
+    let p : c.push.new.self.items ≡ c.self.inside.tablets.items ++ c.in_ok-tablets.tablets ∷ [] = search rules in
     let n : c.in-Some.number ≡ c.self.inside.last_table + 1 = search rules in
     let t : c.in_ok-tablets.tablets.table ≡ c.in-Some.number = search rules in
-    rw e (known_snoc c.self.inside.last_table c.in-Some.number c.self.inside.tablets.items c.in_ok-tablets.tablets n t c.self.invariant)
+    let k : c.in_ok-key.key ≡ key_of c.in_ok-table.table = search rules in
+    rw (e, p) (table_more c.self.inside.tables.entries c.self.inside.tablets.items c.self.inside.last_table c.in-Some.number c.in_ok-key.key c.in_ok-table.table c.in_ok-tablets.tablets k n t c.self.invariant)

@@ -19,7 +19,8 @@ invariant_of-self c =
     let r : option_map (λ (t : Txn). is_committed t.state) (txn_at c.args.id (map seen c.self.inside.kept.items)) ≡ Some false = rw (← c.self.view_is) at c.requires in
     let open_now = open_seen c.args.id c.self.inside.kept.items r in
     record {
-    ascends = c.end.ensures.ascends;
-    below = c.end.ensures.below _ c.self.invariant.below;
-    labels = c.finish.ensures ∙ ap (map (finished c.args.id state.Aborted)) c.self.invariant.labels ∙ sym c.end.ensures.labels;
-    queued = c.end.ensures.queue _ _ refl (open_slot c.args.id c.self.inside.kept.items open_now) c.self.invariant.queued }
+      ascends = c.end.ensures.ascends;
+      below = c.end.ensures.below _ c.self.invariant.below;
+      labels = c.finish.ensures ∙ ap (map (finished c.args.id state.Aborted)) c.self.invariant.labels ∙ sym c.end.ensures.labels;
+      queued = c.end.ensures.queue _ _ refl (open_slot c.args.id c.self.inside.kept.items open_now) c.self.invariant.queued;
+    }

@@ -22,7 +22,8 @@ invariant_of-self-2 c =
     let s : c.finish.new.self ≡ map (finished c.args.id (parts.state_by c.args.placed)) c.self.inside.book = search rules in
     let p : c.places_by-self-inside.result ≡ parts.places_by c.args.placed c.self.inside.places = search rules in
     record {
-    ascends = c.submit.ensures.ascends;
-    below = c.submit.ensures.below _ c.self.invariant.below;
-    labels = s ∙ ap (map (finished c.args.id (parts.state_by c.args.placed))) c.self.invariant.labels ∙ sym c.submit.ensures.labels;
-    queued = rw (q, p) (c.submit.ensures.queue _ _ next (open_seen c.args.id c.self.inside.kept.items r) c.self.invariant.queued) }
+      ascends = c.submit.ensures.ascends;
+      below = c.submit.ensures.below _ c.self.invariant.below;
+      labels = s ∙ ap (map (finished c.args.id (parts.state_by c.args.placed))) c.self.invariant.labels ∙ sym c.submit.ensures.labels;
+      queued = rw (q, p) (c.submit.ensures.queue _ _ next (open_seen c.args.id c.self.inside.kept.items r) c.self.invariant.queued);
+    }

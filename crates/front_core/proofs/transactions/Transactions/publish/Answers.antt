@@ -17,10 +17,11 @@ invariant_of-self-in-Some c =
     let e : c.self.inside.queue.items ≡ c.in-Some.waiter ∷ c.pop_front.new.self.items = search rules in
     let h = rw e at c.self.invariant.queued in
     record {
-    ascends = c.end.ensures.ascends;
-    below = c.end.ensures.below _ c.self.invariant.below;
-    labels = c.finish.ensures ∙ ap (map (finished c.in-Some.waiter.txn state.Visible)) c.self.invariant.labels ∙ sym c.end.ensures.labels;
-    queued = c.end.ensures.first c.in-Some.waiter _ _ refl refl h }
+      ascends = c.end.ensures.ascends;
+      below = c.end.ensures.below _ c.self.invariant.below;
+      labels = c.finish.ensures ∙ ap (map (finished c.in-Some.waiter.txn state.Visible)) c.self.invariant.labels ∙ sym c.end.ensures.labels;
+      queued = c.end.ensures.first c.in-Some.waiter _ _ refl refl h;
+    }
 
 pub returns-in-None : goal.returns-in-None
 returns-in-None c =

@@ -19,4 +19,4 @@ pub returns-in-Label-clause-number : goal.returns-in-Label-clause-number
 returns-in-Label-clause-number c =
     let e : option_map seen (option_copied c.last_of.result) ≡ label_of c.args.db.now c.in-Label.label (map seen c.self.inside.kept.items) = rw (← c.self.view_is) at c.last_of.ensures in
     rw (← c.self.view_is) (numbered c.self.inside.kept.items (λ (k : Kept). holds c.args.db.now c.in-Label.label (seen k)) (reverse c.self.inside.kept.items) c.last_of.result
-        (each_reverse (λ (k : Kept). find (λ (x : Kept). nat_eq x.id k.id) c.self.inside.kept.items ≡ Some k) c.self.inside.kept.items (each_self c.self.inside.kept.items c.self.invariant.ascends)) (e ∙ label_is c.args.db.now c.in-Label.label c.self.inside.kept.items))
+    (each_reverse (λ (k : Kept). find (λ (x : Kept). nat_eq x.id k.id) c.self.inside.kept.items ≡ Some k) c.self.inside.kept.items (each_self c.self.inside.kept.items c.self.invariant.ascends)) (e ∙ label_is c.args.db.now c.in-Label.label c.self.inside.kept.items))
