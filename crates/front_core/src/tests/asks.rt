@@ -1,0 +1,181 @@
+// Commands in short.
+use dl_values::{Cell, ColType, Name, NoMemory, Row, Rows};
+use front_defs::{Command, TxnKey};
+use journal_format::EncodedRows;
+use partitions::Layout;
+use rowsets::Rowset;
+use schema_models::{ColumnDef, Model, Role, Shape};
+use shadow_writes::{Built, Mapped, Plan, TabletRows};
+use sql_text::{PlainColumn, PlainDef, Query};
+use sqlite_items::Items;
+use std::alloc::Global;
+use std::sync::Arc;
+
+// A command in short, over databases, tables and labels of plain names.
+#[derive(Clone, Copy)]
+pub enum Ask {
+    Db(&'static str),
+    Table(&'static str, &'static str),
+    HashedBy(&'static str),
+    Begin(&'static str, bool, u64),
+    Unlabelled,
+    Submit(u64, u64, i64),
+    Nothing(u64),
+    Publish,
+    Abort(&'static str),
+    AbortId(u64),
+    Select(&'static str),
+}
+
+pub fn name(alloc: Global, text: &str) -> Result<Name, NoMemory> {
+    Name::new(alloc, text.as_bytes())
+}
+
+fn names(alloc: Global, text: &str) -> Result<Items<Name>, NoMemory> {
+    let mut names = Items::new(alloc);
+    names.push(name(alloc, text)?)?;
+    Ok(names)
+}
+
+fn def(alloc: Global, hash: &str) -> Result<PlainDef, NoMemory> {
+    let mut columns = Items::new(alloc);
+    columns.push(PlainColumn {
+        name: name(alloc, "k")?,
+        kind: ColType::Int,
+        nullable: false,
+    })?;
+    Ok(PlainDef {
+        columns,
+        key: None,
+        hash: names(alloc, hash)?,
+        buckets: None,
+    })
+}
+
+fn plan(alloc: Global, txn: u64) -> Result<Plan, NoMemory> {
+    let mut columns = Vec::new(alloc);
+    columns.push(ColumnDef {
+        name: name(alloc, "k")?,
+        kind: ColType::Int,
+        nullable: false,
+        role: Role::Key,
+        default: None,
+    })?;
+    let base = match Shape::build(Model::Duplicate, columns) {
+        Ok(shape) => shape,
+        Err(_) => return Err(NoMemory),
+    };
+    let layout = Layout::whole(alloc, name(alloc, "t")?, names(alloc, "k")?, 10)?;
+    Ok(Plan {
+        txn,
+        schema: 0,
+        layout,
+        base,
+    })
+}
+
+fn one_row(alloc: Global, k: i64) -> Result<Rows, NoMemory> {
+    let mut row = Row::new(alloc);
+    row.push(Cell::Int(k))?;
+    let mut rows = Rows::new(alloc);
+    rows.push(row)?;
+    Ok(rows)
+}
+
+// A load of one row, or of none.
+fn built(alloc: Global, txn: u64, k: Option<i64>) -> Result<Built, NoMemory> {
+    let mut sets = Items::new(alloc);
+    let mut rows = Rows::new(alloc);
+    if let Some(k) = k {
+        rows = one_row(alloc, k)?;
+        let rowset = Arc::new(alloc, Rowset::of_folded(one_row(alloc, k)?))?;
+        sets.push(TabletRows {
+            part: 0,
+            bucket: 0,
+            rows: rowset,
+        })?;
+    }
+    let mut targets = Items::new(alloc);
+    targets.push(Mapped::Sets(sets))?;
+    Ok(Built {
+        plan: plan(alloc, txn)?,
+        rows: EncodedRows::new(rows),
+        targets,
+    })
+}
+
+fn all_of(alloc: Global, table: &str) -> Result<Query, NoMemory> {
+    Ok(Query {
+        table: name(alloc, table)?,
+        star: true,
+        items: Items::new(alloc),
+        filters: Items::new(alloc),
+        group: Items::new(alloc),
+        order: Items::new(alloc),
+        limit: None,
+    })
+}
+
+fn begin(
+    alloc: Global,
+    label: Option<Name>,
+    two_phase: bool,
+    at: u64,
+) -> Result<Command, NoMemory> {
+    Ok(Command::Begin {
+        db: name(alloc, "d")?,
+        table: name(alloc, "t")?,
+        label,
+        two_phase,
+        at,
+    })
+}
+
+fn create_table(alloc: Global, db: &str, table: &str, hash: &str) -> Result<Command, NoMemory> {
+    Ok(Command::CreateTable {
+        db: name(alloc, db)?,
+        table: name(alloc, table)?,
+        def: def(alloc, hash)?,
+        if_not_exists: false,
+    })
+}
+
+fn abort(alloc: Global, txn: TxnKey) -> Result<Command, NoMemory> {
+    Ok(Command::Abort {
+        db: name(alloc, "d")?,
+        txn,
+        at: 0,
+    })
+}
+
+pub fn command(alloc: Global, ask: Ask) -> Result<Command, NoMemory> {
+    let command = match ask {
+        Ask::Db(db) => Command::CreateDb {
+            name: name(alloc, db)?,
+            if_not_exists: false,
+        },
+        Ask::Table(db, table) => create_table(alloc, db, table, "k")?,
+        Ask::HashedBy(hash) => create_table(alloc, "d", "u", hash)?,
+        Ask::Begin(label, two_phase, at) => begin(alloc, Some(name(alloc, label)?), two_phase, at)?,
+        Ask::Unlabelled => begin(alloc, None, false, 0)?,
+        Ask::Submit(txn, at, k) => Command::Submit {
+            txn,
+            built: built(alloc, txn, Some(k))?,
+            at,
+        },
+        Ask::Nothing(txn) => Command::Submit {
+            txn,
+            built: built(alloc, txn, None)?,
+            at: 0,
+        },
+        Ask::Publish => Command::Publish { at: 0 },
+        Ask::Abort(label) => abort(alloc, TxnKey::Label(name(alloc, label)?))?,
+        Ask::AbortId(txn) => abort(alloc, TxnKey::Id(txn))?,
+        Ask::Select(table) => Command::Snapshot {
+            db: name(alloc, "d")?,
+            table: name(alloc, table)?,
+            query: all_of(alloc, table)?,
+        },
+    };
+    Ok(command)
+}

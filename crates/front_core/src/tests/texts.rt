@@ -1,0 +1,69 @@
+// Replies in short.
+use dl_values::{Cell, NoMemory};
+use front_defs::Reply;
+use labels::TxnState;
+use rowsets::Rowset;
+use std::alloc::Global;
+use std::sync::Arc;
+
+// A state in capitals.
+pub fn state_text(state: TxnState) -> &'static str {
+    match state {
+        TxnState::Prepare => "PREPARE",
+        TxnState::Precommitted => "PRECOMMITTED",
+        TxnState::Committed => "COMMITTED",
+        TxnState::Visible => "VISIBLE",
+        TxnState::Aborted => "ABORTED",
+    }
+}
+
+fn sums(lists: &[Arc<Rowset>]) -> i64 {
+    let mut sum: i64 = 0;
+    for list in lists {
+        if list.rows().len() == 1 {
+            if let [Cell::Int(k)] = list.rows().row(0) {
+                sum = sum.wrapping_add(*k);
+            }
+        }
+    }
+    sum
+}
+
+fn well_text(alloc: Global, reply: &Reply) -> Result<String, NoMemory> {
+    let text = match reply {
+        Reply::Done => format!(in alloc; "Done")?,
+        Reply::Begun { txn, plan } => format!(in alloc; "Begun {txn} {}", plan.txn)?,
+        Reply::Submitted { placed: None } => format!(in alloc; "Submitted")?,
+        Reply::Submitted { placed: Some(p) } => {
+            format!(in alloc; "Submitted {} {}", p.place, p.ahead)?
+        }
+        Reply::Published { txn, place } => format!(in alloc; "Published {txn} {place}")?,
+        Reply::Aborted { txn } => format!(in alloc; "Aborted {txn}")?,
+        Reply::Snap { snapshot } => {
+            let lists = snapshot.lists.as_slice();
+            format!(in alloc; "Snap {} {}", lists.len(), sums(lists))?
+        }
+        _ => format!(in alloc; "refused")?,
+    };
+    Ok(text)
+}
+
+// A reply in short.
+pub fn text(alloc: Global, reply: &Reply) -> Result<String, NoMemory> {
+    let text = match reply {
+        Reply::BadName => format!(in alloc; "BadName")?,
+        Reply::DbExists => format!(in alloc; "DbExists")?,
+        Reply::UnknownDb => format!(in alloc; "UnknownDb")?,
+        Reply::TableExists => format!(in alloc; "TableExists")?,
+        Reply::BadTable { error: _ } => format!(in alloc; "BadTable")?,
+        Reply::UnknownTable => format!(in alloc; "UnknownTable")?,
+        Reply::BadLabel => format!(in alloc; "BadLabel")?,
+        Reply::Used { txn, state } => format!(in alloc; "Used {txn} {}", state_text(*state))?,
+        Reply::NoSuchTxn => format!(in alloc; "NoSuchTxn")?,
+        Reply::WrongState { state } => format!(in alloc; "WrongState {}", state_text(*state))?,
+        Reply::Expired { since } => format!(in alloc; "Expired {since}")?,
+        Reply::NothingToPublish => format!(in alloc; "NothingToPublish")?,
+        _ => well_text(alloc, reply)?,
+    };
+    Ok(text)
+}
