@@ -10,7 +10,6 @@ ghost use Rattle.schema_models.specs.declared.model.Model.TheVariants as model;
 use crate::key_rule::KeyRule;
 use crate::keyed::Keyed;
 use crate::present::Present;
-use crate::runs::fill;
 use dl_values::{Cell, NoMemory, Row, Rows};
 use std::alloc::Global;
 use std::cmp::Ordering;
@@ -73,10 +72,8 @@ fn copy_rows(alloc: Global, sorted: &[Keyed]) -> Result<Rows, NoMemory>
     ensures { IfOk result (λ out. out ≡ rows_of sorted.now) }
 {
     let mut out = Rows::new(alloc);
-    let mut room = Row::new(alloc);
     for i in 0..sorted.len() {
-        fill(alloc, &mut room, sorted[i].row)?;
-        out.append(&mut room)?;
+        out.push_copy(alloc, sorted[i].row)?;
     }
     Ok(out)
 }

@@ -2,7 +2,7 @@
 ghost use Rattle.std.specs.Prelude.{◌≡◌, ◌++◌, ◌∷◌, [], OnOk};
 ghost use Rattle.schema_models.specs.Folds.{merged_row};
 
-use crate::runs::{begin, end, fill, merge_into};
+use crate::runs::{begin, end, merge_into};
 use dl_values::{Cell, NoMemory, Row, Rows};
 use schema_models::ColumnDef;
 use std::alloc::Global;
@@ -79,8 +79,7 @@ impl<'a> Present<'a> {
         ensures emptied { OnOk result (room.new ≡ []) }
     {
         if self.is_stored {
-            fill(alloc, room, self.stored)?;
-            out.append(room)
+            out.push_copy(alloc, self.stored)
         } else {
             end(out, room, &mut self.made)
         }
