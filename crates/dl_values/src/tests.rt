@@ -84,8 +84,8 @@ fn dates_and_texts_are_read_by_their_type(rt: HostRuntime) -> Result<(), Fail> {
         (ColType::Varchar(4), b"\xff", b"none"),
         (
             ColType::Varchar(30),
-            b"a text of more than 15 bytes",
-            b"a text of more than 15 bytes",
+            b"a text of more than 22 bytes",
+            b"a text of more than 22 bytes",
         ),
     ];
     for (kind, text, wanted) in table {
