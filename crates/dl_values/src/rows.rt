@@ -41,6 +41,7 @@ impl Rows {
 
     /// Moves the cells of a row to the end, as a row. The row that is left has no cells, and keeps its room for the next.
     /// After want of memory both stand as before.
+    #[inline(always)]
     pub fn append(&mut self, row: &mut Row) -> Result<(), NoMemory>
         ensures ok { OnOk result (self.new ≡ self.old ++ row.old ∷ []) }
         ensures emptied { OnOk result (row.new ≡ []) }
@@ -68,6 +69,7 @@ impl Rows {
     }
 
     /// Adds equal cells of their own at the end, as a row. After want of memory the rows stand as before.
+    #[inline(always)]
     pub fn push_copy(&mut self, alloc: Global, row: &[Cell]) -> Result<(), NoMemory>
         ensures ok { OnOk result (self.new ≡ self.old ++ row.now ∷ []) }
         ensures err { OnErr result (self.new ≡ self.old) }
