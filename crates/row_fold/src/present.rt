@@ -36,16 +36,6 @@ impl<'a> Present<'a> {
         }
     }
 
-    pub fn cells(&self) -> &[Cell]
-        ensures { result.now ≡ self.now }
-    {
-        if self.is_stored {
-            self.stored
-        } else {
-            self.made.as_slice()
-        }
-    }
-
     // Goes on with another row.
     pub fn begin(&mut self, row: &'a [Cell])
         ensures { self.new ≡ row.now }
