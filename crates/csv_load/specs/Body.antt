@@ -1,6 +1,6 @@
 -- The rows of a body and what is counted (Apache Doris documentation, "Data Loading", "Stream Load": `column_separator`,
 -- `max_filter_ratio`, `strict_mode`).
-use Rattle.std.specs.Prelude.{ℕ, ◌&&◌, not, List, [], ◌∷◌, Bool, true, Option, Some, None, is_none, if◌then◌else◌, length}
+use Rattle.std.specs.Prelude.{ℕ, ◌&&◌, not, List, [], ◌∷◌, ◌++◌, Bool, true, Option, Some, None, is_none, if◌then◌else◌, length}
 use Rattle.std.specs.List.{filter_map, count_by, position_from}
 use Rattle.std.specs.Str.{bytes_eq}
 use Rattle.dl_values.specs.Read.{read}
@@ -28,6 +28,11 @@ abbrev pub cell_of : Bool → ColumnDef → List ℕ → Option Cell
 cell_of strict column field =
     if bytes_eq field null_text then null_if column.nullable
     else or_null (not strict && column.nullable) (read column.kind field)
+
+-- cells and one more behind them, where it is there
+abbrev pub with_cell : List Cell → Option Cell → Option (List Cell)
+with_cell cells None = None
+with_cell cells (Some c) = Some (cells ++ c ∷ [])
 
 -- a cell in front of the others of its row
 abbrev pub onto_row : Option Cell → Option (List Cell) → Option (List Cell)

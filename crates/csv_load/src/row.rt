@@ -1,7 +1,7 @@
 // The row that a record gives.
 ghost use Rattle.std.specs.Prelude.{◌≡◌, IfOk, Some, None, option_copied, if◌then◌else◌, []};
 ghost use Rattle.csv.specs.Records.{fields_of};
-ghost use Rattle.csv_load.specs.Body.{null_if, cell_of, cells_of, is_inside, only_inside, row_of};
+ghost use Rattle.csv_load.specs.Body.{null_if, cell_of, cells_of, is_inside, only_inside, row_of, with_cell};
 
 use crate::Inside;
 use csv::ByteRecord;
@@ -35,6 +35,30 @@ fn read_cell(
     }
 }
 
+// Adds the cell that a column takes from a field to a row; false where it takes none.
+fn push_cell(
+    alloc: Global,
+    strict: bool,
+    column: &ColumnDef,
+    field: &[u8],
+    row: &mut Row,
+) -> Result<bool, NoMemory>
+    ensures { IfOk result (λ takes. with_cell row.old (cell_of strict column.now field.now) ≡ (if takes then Some row.new else None)) }
+{
+    // Digits alone are read at once: they are no null, and what they stand for is no error to be judged.
+    if let Some(value) = column.kind.plain_int(field) {
+        row.push(Cell::Int(value))?;
+        return Ok(true);
+    }
+    match read_cell(alloc, strict, column, field)? {
+        None => Ok(false),
+        Some(cell) => {
+            row.push(cell)?;
+            Ok(true)
+        }
+    }
+}
+
 // Adds the cells of a record to an empty row; false where the record has not one field for each column, or gives a
 // column no cell.
 fn read_cells(
@@ -53,10 +77,11 @@ fn read_cells(
     for (i, column) in columns.iter().enumerate() {
         match fields.get(i) {
             None => return Ok(false),
-            Some(field) => match read_cell(alloc, strict, column, field)? {
-                None => return Ok(false),
-                Some(cell) => row.push(cell)?,
-            },
+            Some(field) => {
+                if !push_cell(alloc, strict, column, field, row)? {
+                    return Ok(false);
+                }
+            }
         }
     }
     Ok(true)

@@ -9,5 +9,5 @@ held_bytes (held.Long bytes) = bytes.value.items
 
 -- a short text is not longer than its room
 abbrev pub IsHeld : Held → Type 0
-IsHeld (held.Short len bytes) = len ≤ 15
+IsHeld (held.Short len bytes) = len ≤ 22
 IsHeld (held.Long bytes) = Unit {0}

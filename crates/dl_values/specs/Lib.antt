@@ -3,6 +3,7 @@ pub mod Days
 pub mod Held
 pub mod Order
 pub mod OrderLemmas
+pub mod PlainInt
 pub mod Read
 pub mod Views
 pub mod Write

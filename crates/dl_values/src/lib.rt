@@ -11,6 +11,7 @@ mod name;
 mod no_memory;
 mod number;
 mod order;
+mod plain_int;
 mod read;
 mod result_set;
 mod row;

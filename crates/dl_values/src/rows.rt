@@ -1,8 +1,8 @@
 // Rows, which contracts see as the list of their lists of cells. They stand in one list of cells, one after the other.
-ghost use Rattle.std.specs.Prelude.{◌≡◌, ◌<◌, [], length, slice_index_or};
+ghost use Rattle.std.specs.Prelude.{◌≡◌, ◌<◌, ◌++◌, [], length, take, slice_index_or, OnOk, OnErr};
 ghost use Rattle.dl_values.specs.Cuts.{cut, start_of, IsCut};
 
-use crate::{Cell, NoMemory, Row};
+use crate::{Cell, NoMemory, Row, copy_cell};
 use std::alloc::Global;
 use std::marker::Model;
 
@@ -41,6 +41,7 @@ impl Rows {
 
     /// Moves the cells of a row to the end, as a row. The row that is left has no cells, and keeps its room for the next.
     /// After want of memory both stand as before.
+    #[inline(always)]
     pub fn append(&mut self, row: &mut Row) -> Result<(), NoMemory>
         ensures ok { OnOk result (self.new ≡ self.old ++ row.old ∷ []) }
         ensures emptied { OnOk result (row.new ≡ []) }
@@ -67,6 +68,22 @@ impl Rows {
         self.append(&mut row)
     }
 
+    /// Adds equal cells of their own at the end, as a row. After want of memory the rows stand as before.
+    #[inline(always)]
+    pub fn push_copy(&mut self, alloc: Global, row: &[Cell]) -> Result<(), NoMemory>
+        ensures ok { OnOk result (self.new ≡ self.old ++ row.now ∷ []) }
+        ensures err { OnErr result (self.new ≡ self.old) }
+    {
+        let start = self.cells.as_slice().len();
+        self.ends.push(start + row.len())?;
+        if let Err(e) = copy_onto(alloc, &mut self.cells, row) {
+            let _end = self.ends.pop();
+            self.cells.truncate(start);
+            return Err(e);
+        }
+        Ok(())
+    }
+
     /// How many rows there are.
     pub fn len(&self) -> usize
         ensures { result ≡ length self.now }
@@ -88,6 +105,21 @@ impl Rows {
     {
         row_at(self.ends.as_slice(), self.cells.as_slice(), place)
     }
+}
+
+// Adds equal cells of their own at the end. After want of memory some of them may have been added.
+fn copy_onto(alloc: Global, list: &mut Vec<Cell>, cells: &[Cell]) -> Result<(), NoMemory>
+    ensures ok { OnOk result (list.new.items ≡ list.old.items ++ cells.now) }
+    ensures kept { OnErr result (take (length list.old.items) list.new.items ≡ list.old.items) }
+{
+    for cell in cells {
+        match cell {
+            // The most frequent case makes no call.
+            Cell::Int(value) => list.push(Cell::Int(*value))?,
+            cell => list.push(copy_cell(alloc, cell)?)?,
+        }
+    }
+    Ok(())
 }
 
 // Where the row at a place starts.

@@ -84,8 +84,8 @@ fn dates_and_texts_are_read_by_their_type(rt: HostRuntime) -> Result<(), Fail> {
         (ColType::Varchar(4), b"\xff", b"none"),
         (
             ColType::Varchar(30),
-            b"a text of more than 15 bytes",
-            b"a text of more than 15 bytes",
+            b"a text of more than 22 bytes",
+            b"a text of more than 22 bytes",
         ),
     ];
     for (kind, text, wanted) in table {
@@ -123,7 +123,7 @@ fn rows_of_any_width_stand_side_by_side(rt: HostRuntime) -> Result<(), Fail> {
     rows.append(&mut row)?;
     let mut third = Row::new(alloc);
     third.push(Cell::Int(3))?;
-    rows.push(third)?;
+    rows.push_copy(alloc, third.cells())?;
     assert_eq!(rt; rows.len(), 3);
     assert_eq!(rt; row.cells().len(), 0);
     assert_eq!(rt; rows.row(0).len(), 0);
@@ -204,5 +204,35 @@ fn a_name_is_found_by_its_hash(rt: HostRuntime) -> Result<(), Fail> {
     let _ = numbers.insert(Name::new(alloc, b"Orders")?, 2)?;
     assert_eq!(rt; numbers.get(&Name::new(alloc, b"orders")?), Some(&1));
     assert_eq!(rt; numbers.get(&Name::new(alloc, b"order")?), None);
+    Ok(())
+}
+
+#[test]
+fn digits_alone_are_read_as_by_the_type(rt: HostRuntime) -> Result<(), Fail> {
+    let table: [(ColType, &[u8], Option<i64>); 16] = [
+        (ColType::TinyInt, b"127", Some(127)),
+        (ColType::TinyInt, b"128", None),
+        (ColType::SmallInt, b"32767", Some(32_767)),
+        (ColType::SmallInt, b"32768", None),
+        (ColType::Int, b"0", Some(0)),
+        (ColType::Int, b"007", Some(7)),
+        (ColType::Int, b"2147483647", Some(2_147_483_647)),
+        (ColType::Int, b"2147483648", None),
+        (
+            ColType::BigInt,
+            b"999999999999999999",
+            Some(999_999_999_999_999_999),
+        ),
+        (ColType::BigInt, b"1000000000000000000", None),
+        (ColType::Int, b"-7", None),
+        (ColType::Int, b"", None),
+        (ColType::Int, b"7a", None),
+        (ColType::Int, b" 7", None),
+        (ColType::Date, b"20240229", None),
+        (ColType::Varchar(9), b"7", None),
+    ];
+    for (kind, text, wanted) in table {
+        assert_eq!(rt; kind.plain_int(text), wanted);
+    }
     Ok(())
 }

@@ -5,7 +5,7 @@ use std::cmp::Ordering;
 use std::marker::Model;
 
 // The longest text that stands in its cell, without memory of its own.
-const SHORT: usize = 15;
+const SHORT: usize = 22;
 
 /// A text of any bytes. Whether they are UTF-8 is judged where they are read.
 #[derive(Debug, Drop)]

@@ -7,6 +7,7 @@ use crate::{Cell, NoMemory};
 use itoa::Buffer;
 
 /// Adds the text of a cell at the end. After want of memory a front of the text may have been added.
+#[inline(always)]
 pub fn write_cell(cell: &Cell, out: &mut Vec<u8>) -> Result<(), NoMemory>
     ensures { OnOk result (out.new.items ≡ out.old.items ++ cell_text cell.now) }
 {

@@ -61,6 +61,10 @@ module _ (s : ShapeView) (n : s.model ≡ model.Duplicate → ⊥) where
   pub same_ascends : (x y made : List Cell) → made ≡ merged_row s.columns x y → Equal ≡ row_cmp (key_of s x) (key_of s y) → (rest : List (List Cell)) → Ascends row_cmp (key_of s) (x ∷ y ∷ rest) → Ascends row_cmp (key_of s) (made ∷ rest)
   same_ascends x y made m e rest a = (subst (λ k. From row_cmp (key_of s) k rest) (sym (ap (key_of s) m ∙ same_key x y e)) a.0.1, a.1.1)
 
+  -- and the key of either row
+  pub same_last : (x y made : List Cell) → made ≡ merged_row s.columns x y → Equal ≡ row_cmp (key_of s x) (key_of s y) → key_of s y ≡ key_of s made
+  same_last x y made m e = sym (rows_same (key_of s x) (key_of s y) (sym e)) ∙ sym (ap (key_of s) m ∙ same_key x y e)
+
   less : (x y : List Cell) → is_gt (row_cmp (key_of s x) (key_of s y)) ≡ false → (Equal ≡ row_cmp (key_of s x) (key_of s y) → ⊥) → row_cmp (key_of s x) (key_of s y) ≡ Less
   less x y g h = go (row_cmp (key_of s x) (key_of s y)) refl
     where
@@ -105,5 +109,8 @@ cut : (keyed : List Keyed) (i : ℕ) (d : Keyed) → i < length keyed → drop i
 cut keyed i d h = rw add-one (drop-cons keyed i d h)
 
 -- the rows from a place on
-pub rows_cut : (keyed : List Keyed) (i : ℕ) (d : Keyed) → i < length keyed → rows_of (drop i keyed) ≡ (get_or keyed i d).row.now ∷ rows_of (drop (i + 1) keyed)
+rows_cut : (keyed : List Keyed) (i : ℕ) (d : Keyed) → i < length keyed → rows_of (drop i keyed) ≡ (get_or keyed i d).row.now ∷ rows_of (drop (i + 1) keyed)
 rows_cut keyed i d h = ap (λ (l : List Keyed). rows_of l) (cut keyed i d h)
+
+pub rows_cut_at : (keyed : List Keyed) (i : ℕ) (k : Keyed) → i < length keyed → k ≡ get_or keyed i k → rows_of (drop i keyed) ≡ k.row.now ∷ rows_of (drop (i + 1) keyed)
+rows_cut_at keyed i k h e = rows_cut keyed i k h ∙ ap (λ (x : Keyed). x.row.now ∷ rows_of (drop (i + 1) keyed)) (sym e)

@@ -10,33 +10,36 @@ ghost use Rattle.schema_models.specs.declared.model.Model.TheVariants as model;
 use crate::key_rule::KeyRule;
 use crate::keyed::Keyed;
 use crate::present::Present;
-use crate::runs::fill;
 use dl_values::{Cell, NoMemory, Row, Rows};
 use std::alloc::Global;
 use std::cmp::Ordering;
 
-// Takes the next row: it merges into the row that is being made, or ends that and begins the next one.
+// Takes the next row: it merges into the row that is being made, or ends that and begins the next one. The last row that
+// was taken stands for the row that is being made, which has its key, so that no number of a key is found again.
 fn take_next<'a>(
     alloc: Global,
     rule: &KeyRule,
     out: &mut Rows,
     room: &mut Row,
     present: &mut Present<'a>,
-    next: &'a [Cell],
+    last: &Keyed,
+    next: &Keyed<'a>,
 ) -> Result<(), NoMemory>
     requires empty { room.old ≡ [] }
+    requires key { key_of rule.now.shape.now last.now.row.now ≡ key_of rule.now.shape.now present.old }
     requires merges { rule.now.shape.now.model ≡ model.Duplicate → ⊥ }
     ensures emptied { OnOk result (room.new ≡ []) }
-    ensures same { OnOk result ((rest : List (List Cell)) → Ascends row_cmp (key_of rule.now.shape.now) (present.old ∷ next.now ∷ rest)
-        → out.new ++ fold_of rule.now.shape.now (present.new ∷ rest) ≡ out.old ++ fold_of rule.now.shape.now (present.old ∷ next.now ∷ rest)) }
-    ensures ascends { OnOk result ((rest : List (List Cell)) → Ascends row_cmp (key_of rule.now.shape.now) (present.old ∷ next.now ∷ rest)
+    ensures key { OnOk result (key_of rule.now.shape.now next.now.row.now ≡ key_of rule.now.shape.now present.new) }
+    ensures same { OnOk result ((rest : List (List Cell)) → Ascends row_cmp (key_of rule.now.shape.now) (present.old ∷ next.now.row.now ∷ rest)
+        → out.new ++ fold_of rule.now.shape.now (present.new ∷ rest) ≡ out.old ++ fold_of rule.now.shape.now (present.old ∷ next.now.row.now ∷ rest)) }
+    ensures ascends { OnOk result ((rest : List (List Cell)) → Ascends row_cmp (key_of rule.now.shape.now) (present.old ∷ next.now.row.now ∷ rest)
         → Ascends row_cmp (key_of rule.now.shape.now) (present.new ∷ rest)) }
 {
-    match rule.compare(&Keyed::new(present.cells()), &Keyed::new(next)) {
-        Ordering::Equal => present.merge(alloc, rule.shape.columns(), next),
+    match rule.compare(last, next) {
+        Ordering::Equal => present.merge(alloc, rule.shape.columns(), next.row),
         _ => {
             present.end(alloc, out, room)?;
-            present.begin(next);
+            present.begin(next.row);
             Ok(())
         }
     }
@@ -53,16 +56,12 @@ fn merge_runs(alloc: Global, rule: &KeyRule, sorted: &[Keyed]) -> Result<Rows, N
         return Ok(out);
     }
     let mut room = Row::new(alloc);
-    let mut present = Present::new(alloc, sorted[0].row);
+    let mut last = &sorted[0];
+    let mut present = Present::new(alloc, last.row);
     for i in 1..sorted.len() {
-        take_next(
-            alloc,
-            rule,
-            &mut out,
-            &mut room,
-            &mut present,
-            sorted[i].row,
-        )?;
+        let next = &sorted[i];
+        take_next(alloc, rule, &mut out, &mut room, &mut present, last, next)?;
+        last = next;
     }
     present.end(alloc, &mut out, &mut room)?;
     Ok(out)
@@ -73,10 +72,8 @@ fn copy_rows(alloc: Global, sorted: &[Keyed]) -> Result<Rows, NoMemory>
     ensures { IfOk result (λ out. out ≡ rows_of sorted.now) }
 {
     let mut out = Rows::new(alloc);
-    let mut room = Row::new(alloc);
     for i in 0..sorted.len() {
-        fill(alloc, &mut room, sorted[i].row)?;
-        out.append(&mut room)?;
+        out.push_copy(alloc, sorted[i].row)?;
     }
     Ok(out)
 }

@@ -2,7 +2,7 @@
 ghost use Rattle.std.specs.Prelude.{◌≡◌, ◌++◌, ◌∷◌, [], OnOk};
 ghost use Rattle.schema_models.specs.Folds.{merged_row};
 
-use crate::runs::{begin, end, fill, merge_into};
+use crate::runs::{begin, end, merge_into};
 use dl_values::{Cell, NoMemory, Row, Rows};
 use schema_models::ColumnDef;
 use std::alloc::Global;
@@ -33,16 +33,6 @@ impl<'a> Present<'a> {
             stored: row,
             is_stored: true,
             made: Vec::new(alloc),
-        }
-    }
-
-    pub fn cells(&self) -> &[Cell]
-        ensures { result.now ≡ self.now }
-    {
-        if self.is_stored {
-            self.stored
-        } else {
-            self.made.as_slice()
         }
     }
 
@@ -79,8 +69,7 @@ impl<'a> Present<'a> {
         ensures emptied { OnOk result (room.new ≡ []) }
     {
         if self.is_stored {
-            fill(alloc, room, self.stored)?;
-            out.append(room)
+            out.push_copy(alloc, self.stored)
         } else {
             end(out, room, &mut self.made)
         }

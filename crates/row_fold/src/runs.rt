@@ -66,17 +66,3 @@ pub fn end(out: &mut Rows, room: &mut Row, made: &mut Vec<Cell>) -> Result<(), N
     }
     out.append(room)
 }
-
-// Fills an empty row with cells.
-pub fn fill(alloc: Global, room: &mut Row, cells: &[Cell]) -> Result<(), NoMemory>
-    requires { room.old ≡ [] }
-    ensures { OnOk result (room.new ≡ cells.now) }
-{
-    for cell in cells {
-        match cell {
-            Cell::Int(value) => room.push(Cell::Int(*value))?,
-            cell => room.push(copy_cell(alloc, cell)?)?,
-        }
-    }
-    Ok(())
-}

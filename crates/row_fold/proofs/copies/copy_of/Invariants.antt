@@ -1,8 +1,5 @@
-use Rattle.std.proofs.Common.{◌≡◌, ◌++◌, [], drop}
+use Rattle.std.proofs.Common.{◌≡◌, ◌++◌, drop}
 use Rattle.row_fold.proofs.copies.copy_of.Given as goal
 
 abbrev pub invariant-loop-place : goal.invariant-loop-place
-invariant-loop-place l = record {
-  empty : l.room ≡ [];
-  so_far : l.out ++ drop l.place l.rows ≡ l.rows;
-}
+invariant-loop-place l = l.out ++ drop l.place l.rows ≡ l.rows

@@ -4,7 +4,7 @@ use Rattle.dl_values.specs.declared.cell.Cell.{Cell}
 use Rattle.fold_laws.specs.Fold.{Ascends}
 use Rattle.row_fold.specs.Sorted.{rows_of}
 use Rattle.schema_models.specs.Folds.{fold_of, key_of}
-use Rattle.row_fold.proofs.RunLemmas.{none_fold, rows_cut, runs_done}
+use Rattle.row_fold.proofs.RunLemmas.{none_fold, rows_cut_at, runs_done}
 use Rattle.row_fold.proofs.merging.merge_runs.Goals as goal
 
 pub returns-then-is_empty : goal.returns-then-is_empty
@@ -16,10 +16,11 @@ loop-i-preserved c =
     let i = c.loop-i.i in
     let rest = rows_of (drop (i + 1) c.args.sorted.now) in
     let made = c.loop-i.present in
-    let cut = rows_cut c.args.sorted.now i c.index-sorted-i.result (omega arith) in
+    let cut = rows_cut_at c.args.sorted.now i c.index-sorted-i.result (omega arith) c.index-sorted-i.is in
     let a = subst (λ (l : List (List Cell)). Ascends row_cmp (key_of s) (made ∷ l)) cut c.loop-i.invariant.ascends in
     record {
       empty = c.in_ok-take_next.ensures.emptied;
+      key = c.in_ok-take_next.ensures.key;
       so_far = c.in_ok-take_next.ensures.same rest a ∙ sym (ap (λ l. c.loop-i.out ++ fold_of s (made ∷ l)) cut) ∙ c.loop-i.invariant.so_far;
       ascends = c.in_ok-take_next.ensures.ascends rest a;
     }

@@ -8,6 +8,7 @@ use Rattle.row_fold.proofs.merging.merge_runs.Given as goal
 abbrev pub invariant-loop-i : goal.invariant-loop-i
 invariant-loop-i l = record {
   empty : l.room ≡ [];
+  key : key_of l.rule.shape.now l.last.row.now ≡ key_of l.rule.shape.now l.present;
   so_far : l.out ++ fold_of l.rule.shape.now (l.present ∷ rows_of (drop l.i l.sorted)) ≡ fold_of l.rule.shape.now (rows_of l.sorted);
   ascends : Ascends row_cmp (key_of l.rule.shape.now) (l.present ∷ rows_of (drop l.i l.sorted));
 }
