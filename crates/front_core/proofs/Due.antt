@@ -1,5 +1,5 @@
 -- The load that is due is the first of the queue, and as many wait as the queue is long.
-use Rattle.std.proofs.Common.{◌≡◌, ℕ, zero, suc, ◌+◌, ◌≤◌, ◌<◌, Bool, true, false, cond, not, ◌&&◌, List, [], ◌∷◌, ◌||◌, length, find, map, Option, Some, None, IfSome, Bor, refl, sym, ◌∙◌, ap, subst, arith, nat_eq, slice_index_or, drop}
+use Rattle.std.proofs.Common.{◌≡◌, ℕ, ◌+◌, ◌≤◌, ◌<◌, Bool, true, false, cond, not, ◌&&◌, List, [], ◌∷◌, ◌||◌, length, find, map, Option, Some, None, IfSome, Bor, refl, sym, ◌∙◌, ap, subst, arith, nat_eq, slice_index_or, drop}
 use Rattle.std.proofs.lemmas.Bool.Decides.{nat_tests}
 use Rattle.std.proofs.lemmas.List.Sums.{sum_by-append}
 use Rattle.std.specs.Prelude.{count_by, nat_lt, sum_by}

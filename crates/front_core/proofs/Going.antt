@@ -1,15 +1,14 @@
 -- A step goes on from what a front stands for: its parts, its entry and the marks of it.
-use Rattle.std.proofs.Common.{◌≡◌, ℕ, ◌≤◌, Bool, true, false, List, [], ◌∷◌, ◌++◌, Option, Some, None, IfSome, inl, inr, refl, sym, ◌∙◌, ap, arith, subst}
+use Rattle.std.proofs.Common.{◌≡◌, ℕ, false, List, ◌∷◌, ◌++◌, Option, Some, None, IfSome, inl, refl, sym, ◌∙◌, ap, arith, subst}
 use Rattle.front_defs.specs.declared.event.Event.{Event}
 use Rattle.front_defs.specs.declared.command.Command.{Command}
 use Rattle.front_defs.specs.declared.reply.Reply.{Reply}
-use Rattle.front_defs.specs.declared.reply.Reply.TheVariants as reply
 use Rattle.front_defs.specs.declared.history.Entry.{Entry}
 use Rattle.front_defs.specs.declared.history.Entry.TheVariants.{Made}
 use Rattle.front_defs.specs.Answer.{Answer}
-use Rattle.front_defs.specs.History.{Outcome, Well, Refused, Faulted, outcome, acted, effect_of, happened, broken_of, broken_after, last_faults}
+use Rattle.front_defs.specs.History.{Outcome, Well, Refused, Faulted, outcome, acted, happened, broken_of, last_faults}
 use Rattle.front_defs.specs.Ids.{live_of}
-use Rattle.front_defs.specs.Legal.{Legal, IsLegal, IsMarked}
+use Rattle.front_defs.specs.Legal.{Legal}
 use Rattle.front_defs.specs.May.{May}
 use Rattle.front_defs.specs.Stands.{View, Stands, StandsOpen}
 use Rattle.front_core.specs.Made.{made}

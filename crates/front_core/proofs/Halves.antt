@@ -8,7 +8,6 @@ use Rattle.std.specs.Prelude.{nat_lt, MatchResult}
 use Rattle.std.specs.List.{position_from}
 use Rattle.std.specs.List.Sorted.{IsBinarySearchResult, IsSearchInRange}
 use Rattle.std.specs.Ordering.{nat_cmp, ordering_index}
-use Rattle.std.specs.Option.{option_map}
 use Rattle.front_defs.specs.Names.{same}
 use Rattle.front_defs.specs.declared.txn.Txn.{Txn}
 use Rattle.front_laws.specs.Tidy.{Each}

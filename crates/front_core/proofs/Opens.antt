@@ -1,36 +1,26 @@
 -- What each command makes of what a front has, and of what happened, is the same.
-use Rattle.std.proofs.Common.{◌≡◌, ℕ, ◌+◌, ◌≤◌, ◌<◌, Bool, true, false, cond, List, [], ◌∷◌, ◌++◌, Option, Some, None, map, find, length, refl, sym, ◌∙◌, ap, arith, subst, nat_eq}
+use Rattle.std.proofs.Common.{◌≡◌, ℕ, ◌+◌, ◌≤◌, Bool, true, false, cond, List, [], ◌∷◌, ◌++◌, Option, Some, None, map, refl, sym, ◌∙◌, ap, arith, subst, nat_eq}
 use Rattle.std.proofs.lemmas.Bool.Decides.{nat_tests}
 use Rattle.std.specs.Prelude.{is_some, nat_lt}
-use Rattle.dl_values.specs.declared.cell.Cell.{Cell}
 use Rattle.sql_text.specs.declared.plain_def.PlainDef.{PlainDef}
-use Rattle.schema_models.specs.ShapeView.{ShapeView}
-use Rattle.schema_models.specs.Folds.{fold_of}
 use Rattle.labels.specs.declared.txn_state.TxnState.TheVariants as state
-use Rattle.shadow_writes.specs.declared.built.Built.{Built}
-use Rattle.shadow_writes.specs.declared.built.Mapped.{Mapped}
-use Rattle.shadow_writes.specs.declared.built.Mapped.TheVariants.{Sets}
 use Rattle.front_defs.specs.declared.event.Event.{Event}
 use Rattle.front_defs.specs.declared.event.TableMade.{TableMade}
 use Rattle.front_defs.specs.declared.catalogue.Table.{Table}
 use Rattle.front_defs.specs.declared.txn.Txn.{Txn}
 use Rattle.front_defs.specs.declared.tablet_lists.TabletLists.{TabletLists}
-use Rattle.front_defs.specs.declared.command.Command.{Command}
 use Rattle.front_defs.specs.declared.command.Command.TheVariants as command
 use Rattle.front_defs.specs.declared.command.TxnKey.{TxnKey}
-use Rattle.front_defs.specs.Answer.{placed_for}
-use Rattle.front_defs.specs.Catalogue.{new_table, has_db, table_named, table_at, databases_of, tables_of, last_table_of}
+use Rattle.front_defs.specs.Catalogue.{new_table, has_db, table_named, databases_of, tables_of, last_table_of}
 use Rattle.front_defs.specs.Defines.{shape_by, layout_by}
-use Rattle.front_defs.specs.History.{acted, happened}
 use Rattle.front_defs.specs.Ids.{next_of, range_of}
-use Rattle.front_defs.specs.Stands.{View, StandsOpen, stored_for, lists_in, versions_in, waiting_for}
-use Rattle.front_defs.specs.Stored.{lists_of, versions_of, waiting_of, waiting_by, folded_some}
-use Rattle.front_defs.specs.Transactions.{changed, begun_txn, txn_at, txn_by, due, txns_of, places_of}
-use Rattle.front_laws.specs.Tidy.{Each, Ascends, HasHome}
-use Rattle.front_laws.proofs.Lists.{at_found, found_id, each_found}
+use Rattle.front_defs.specs.Stands.{View, StandsOpen, stored_for, lists_in, versions_in}
+use Rattle.front_defs.specs.Stored.{versions_of}
+use Rattle.front_defs.specs.Transactions.{changed, begun_txn, txn_by, txns_of}
+use Rattle.front_laws.specs.Tidy.{Each, HasHome}
 use Rattle.front_core.specs.Parts.{IsFront, with_db, with_table, load_begun, range_for, ended_at, with_end, BeginsLoad, EndsLoad}
 use Rattle.front_core.proofs.Going.{Acts}
-use Rattle.front_core.proofs.Loads.{waiting_more, by_more, waiting_ended, waiting_taken, waiting_tabled, put_changed}
+use Rattle.front_core.proofs.Loads.{waiting_more, by_more, waiting_ended, waiting_tabled}
 
 -- CREATE DATABASE
 db_by : (v : View) (Es : List Event) (name : List ℕ) (flag b : Bool) → has_db name v.databases ≡ b → StandsOpen v Es → Acts v (with_db name v) Es (command.CreateDb name flag)

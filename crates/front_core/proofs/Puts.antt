@@ -1,15 +1,14 @@
 -- A change of one of the kept transactions, as contracts see it.
-use Rattle.std.proofs.Common.{◌≡◌, ℕ, zero, suc, ◌+◌, ◌<◌, Bool, true, false, cond, List, [], ◌∷◌, ◌++◌, length, get_or, Option, Some, None, map, refl, sym, ◌∙◌, ap, subst, arith, position, slice_set, nat_eq}
+use Rattle.std.proofs.Common.{◌≡◌, ℕ, zero, suc, ◌+◌, ◌<◌, Bool, true, false, cond, List, [], ◌∷◌, ◌++◌, length, get_or, Option, Some, None, map, refl, sym, ◌∙◌, ap, arith, position, slice_set, nat_eq}
 use Rattle.std.proofs.lemmas.Bool.Decides.{nat_tests}
 use Rattle.std.proofs.lemmas.List.Quantifiers.{position-Some}
 use Rattle.std.proofs.lemmas.Iterator.Adapters.{position_from-zero}
 use Rattle.std.specs.List.{position_from}
 use Rattle.dl_values.specs.declared.cell.Cell.{Cell}
 use Rattle.front_defs.specs.declared.txn.Txn.{Txn}
-use Rattle.front_defs.specs.Stands.{WaitingRows}
 use Rattle.front_defs.specs.Transactions.{changed}
-use Rattle.front_laws.specs.Tidy.{Each, Pairs}
-use Rattle.front_laws.proofs.Lists.{each_imp, each_snoc, pairs_snoc, eq_is}
+use Rattle.front_laws.specs.Tidy.{Each}
+use Rattle.front_laws.proofs.Lists.{each_imp, each_snoc, pairs_snoc}
 use Rattle.front_core.specs.declared.kept.Kept.{Kept}
 use Rattle.front_core.specs.Seen.{seen, waits, Ascending, Below}
 use Rattle.front_core.specs.Parts.{given}

@@ -8,13 +8,13 @@ use Rattle.labels.specs.declared.txn_state.TxnState.TheVariants as state
 use Rattle.front_defs.specs.declared.reply.Placed.{Placed}
 use Rattle.front_core.specs.Parts.{place_by, places_by, state_by}
 use Rattle.front_defs.specs.Transactions.{is_committed, place_of}
-use Rattle.front_laws.specs.Tidy.{Each, Pairs}
+use Rattle.front_laws.specs.Tidy.{Each}
 use Rattle.front_laws.proofs.Lists.{each_both, each_imp, each_snoc, pairs_snoc}
 use Rattle.front_core.specs.declared.kept.Kept.{Kept}
 use Rattle.front_core.specs.declared.waiter.Waiter.{Waiter}
 use Rattle.front_core.specs.Seen.{seen, Ascending}
 use Rattle.front_core.specs.Queue.{IsListed, IsOpen, IsQueue, slot, slot_at, waiter_at, waiters_by}
-use Rattle.front_core.proofs.Puts.{IsFirst, each_index, first_by}
+use Rattle.front_core.proofs.Puts.{each_index, first_by}
 
 -- who is not committed waits nowhere
 pub slot_none : (k : Kept) → is_committed k.state ≡ false → slot k ≡ None

@@ -1,7 +1,6 @@
 -- The rows of a load: taken at its Submit, stored at its Publish, and shown by a snapshot.
-use Rattle.std.proofs.Common.{◌≡◌, ℕ, ◌+◌, ◌≤◌, ◌<◌, Bool, true, false, cond, List, [], ◌∷◌, ◌++◌, Option, Some, None, MatchOption, ◌⊎◌, inl, inr, map, find, length, length-append, refl, sym, ◌∙◌, ap, arith, subst, nat_eq, not, ◌&&◌}
+use Rattle.std.proofs.Common.{◌≡◌, ℕ, ◌+◌, ◌<◌, Bool, true, false, cond, List, [], ◌∷◌, ◌++◌, Option, Some, None, MatchOption, ◌⊎◌, inl, inr, map, find, length, length-append, refl, sym, ◌∙◌, ap, arith, subst, nat_eq, not, ◌&&◌}
 use Rattle.std.proofs.lemmas.Bool.Decides.{nat_tests}
-use Rattle.std.specs.List.{flat_map}
 use Rattle.dl_values.specs.declared.cell.Cell.{Cell}
 use Rattle.sql_text.specs.declared.query.Query.{Query}
 use Rattle.schema_models.specs.Faults.{first_of}
@@ -11,28 +10,25 @@ use Rattle.labels.specs.declared.txn_state.TxnState.TheVariants as state
 use Rattle.shadow_writes.specs.declared.built.Built.{Built}
 use Rattle.shadow_writes.specs.declared.built.Mapped.{Mapped}
 use Rattle.shadow_writes.specs.declared.built.Mapped.TheVariants.{Sets}
-use Rattle.shadow_writes.specs.declared.built.TabletRows.{TabletRows}
 use Rattle.front_defs.specs.declared.event.Event.{Event}
 use Rattle.front_defs.specs.declared.event.LoadSubmitted.{LoadSubmitted}
 use Rattle.front_defs.specs.declared.catalogue.Table.{Table}
 use Rattle.front_defs.specs.declared.txn.Txn.{Txn}
 use Rattle.front_defs.specs.declared.tablet_lists.TabletLists.{TabletLists}
-use Rattle.front_defs.specs.declared.reply.Placed.{Placed}
 use Rattle.front_defs.specs.declared.reply.Reply.{Reply}
 use Rattle.front_defs.specs.declared.reply.Reply.TheVariants as reply
 use Rattle.front_defs.specs.declared.command.Command.TheVariants as command
 use Rattle.front_defs.specs.Answer.{placed_for, snapshot_refusals, Answer, Shows, ShownFor, ShowsBase}
 use Rattle.front_defs.specs.Catalogue.{is_named, table_named, table_at, db_in, db_of, databases_of, tables_of}
 use Rattle.front_defs.specs.Journal.{There}
-use Rattle.front_defs.specs.May.{IsBuilt, GetsFold, Only, MappedOf, SetsOf}
+use Rattle.front_defs.specs.May.{IsBuilt, Only, MappedOf}
 use Rattle.front_defs.specs.Stands.{View, StandsOpen, stored_for, lists_in, versions_in, waiting_for}
-use Rattle.front_defs.specs.Stored as stored
 use Rattle.front_defs.specs.Stored.{base_of, cost_of, lists_of, lists_with, versions_of, versions_with, brought, waiting_by, folded_some}
 use Rattle.front_defs.specs.Transactions.{is_committed, has_lower, place_of, txn_at, due, txns_of, places_of, changed, submitted_txn}
 use Rattle.front_laws.specs.Laws.{FoldsTo, HasShape, NumbersAscend, joined}
 use Rattle.front_laws.specs.Tidy.{Each, Pairs, Ascends, HasHome, IsHome}
 use Rattle.front_laws.proofs.Lists.{at_found, found_id, each_found, eq_is}
-use Rattle.front_core.specs.Parts.{IsFront, IsPublished, Shares, SharedFor, SharesLists, Stores, StoresRows, TakesRows, ended_at, given, is_fit, places_by, set_rows, submitted_at, with_rows}
+use Rattle.front_core.specs.Parts.{IsFront, IsPublished, Shares, SharedFor, SharesLists, StoresRows, TakesRows, ended_at, is_fit, places_by, set_rows, submitted_at, with_rows}
 use Rattle.front_core.proofs.Going.{Acts}
 use Rattle.front_core.proofs.Loads.{waiting_ended, waiting_taken, put_changed}
 

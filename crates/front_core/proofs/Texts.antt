@@ -1,5 +1,5 @@
 -- Reading a definition column by column, and its refusals in order.
-use Rattle.std.proofs.Common.{◌≡◌, ℕ, zero, suc, ◌+◌, ◌<◌, List, [], ◌∷◌, ◌++◌, length, get_or, drop, Option, Some, None, Result, Ok, Err, IfErr, OnOk, ◌⊎◌, inl, inr, refl, sym, ◌∙◌, ap, subst, arith, append_assoc, add-one, drop-cons}
+use Rattle.std.proofs.Common.{◌≡◌, ℕ, zero, suc, ◌+◌, ◌<◌, List, [], ◌∷◌, ◌++◌, length, get_or, drop, Option, Some, None, Result, Ok, Err, IfErr, OnOk, inl, inr, refl, sym, ◌∙◌, ap, subst, arith, append_assoc, add-one, drop-cons}
 use Rattle.schema_models.specs.Faults.{first_of}
 use Rattle.schema_models.specs.declared.column_def.ColumnDef.{ColumnDef}
 use Rattle.schema_models.specs.declared.role.Role.{Role}
@@ -14,7 +14,7 @@ use Rattle.sql_text.specs.declared.plain_def.PlainDef.{PlainDef}
 use Rattle.table_defs.specs.declared.def_error.DefError.TheVariants as def_error
 use Rattle.front_defs.specs.Defines.{columns_by, column_as, shape_by, buckets_by, layout_fault, key_fault, def_fault}
 use Rattle.front_defs.specs.declared.reply.Reply.TheVariants as reply
-use Rattle.front_defs.specs.History.{Outcome, Well, Refused, outcome}
+use Rattle.front_defs.specs.History.{Well, outcome}
 use Rattle.dl_values.specs.declared.cell.Cell.{Cell}
 use Rattle.front_defs.specs.declared.txn.Txn.{Txn}
 use Rattle.labels.specs.declared.txn_state.TxnState.TheVariants as state

@@ -1,5 +1,5 @@
 -- How the indexes of a catalogue stand to what is in it.
-use Rattle.std.specs.Prelude.{◌≡◌, ℕ, ◌≤◌, List, ◌∷◌}
+use Rattle.std.specs.Prelude.{◌≡◌, ℕ, ◌≤◌, List}
 use Rattle.front_defs.specs.declared.catalogue.Table.{Table}
 use Rattle.front_defs.specs.declared.tablet_lists.TabletLists.{TabletLists}
 use Rattle.front_laws.specs.Tidy.{Each}

@@ -1,6 +1,5 @@
 -- The two parts of a front, and what each command makes of them by its reply.
 use Rattle.std.specs.Prelude.{◌≡◌, ℕ, ◌+◌, ◌≤◌, Bool, true, false, cond, List, [], ◌∷◌, ◌++◌, Option, Some, None, map, nat_eq, nat_lt, is_some}
-use Rattle.std.specs.Option.{option_map}
 use Rattle.dl_values.specs.declared.cell.Cell.{Cell}
 use Rattle.labels.specs.declared.txn_state.TxnState.{TxnState}
 use Rattle.labels.specs.declared.txn_state.TxnState.TheVariants as state
@@ -13,7 +12,6 @@ use Rattle.front_defs.specs.declared.reply.Reply.TheVariants as reply
 use Rattle.front_defs.specs.Catalogue.{new_table, has_db, table_named}
 use Rattle.front_core.specs.declared.defined.Defined.{Defined}
 use Rattle.front_defs.specs.Ids.{range_size}
-use Rattle.front_defs.specs.Stored.{versions_with}
 use Rattle.front_defs.specs.Stands.{WaitingRows, View, stored_for, lists_in, versions_in, waiting_for}
 use Rattle.front_defs.specs.declared.event.TableMade.{TableMade}
 use Rattle.front_defs.specs.declared.event.TxnBegun.{TxnBegun}

@@ -1,5 +1,5 @@
 -- The committed loads that wait for their publish, by ascending places.
-use Rattle.std.specs.Prelude.{◌≡◌, ℕ, ◌+◌, ◌≤◌, ◌<◌, Bool, true, false, cond, List, [], ◌∷◌, Option, Some, None, length, nat_eq, count_by, find, map}
+use Rattle.std.specs.Prelude.{◌≡◌, ℕ, ◌≤◌, ◌<◌, false, cond, List, [], ◌∷◌, Option, Some, None, length, nat_eq, count_by, find, map}
 use Rattle.std.specs.Option.{option_map}
 use Rattle.labels.specs.declared.binding.Binding.{Binding}
 use Rattle.front_defs.specs.Transactions.{is_committed, place_of}

@@ -1,5 +1,5 @@
 -- What contracts see of a transaction that is kept, and of the rows that it holds.
-use Rattle.std.specs.Prelude.{◌≡◌, ℕ, map, ◌<◌, Bool, false, List, [], ◌∷◌, Option, Some, None}
+use Rattle.std.specs.Prelude.{◌≡◌, ℕ, map, ◌<◌, Bool, false, List, [], Option, Some, None}
 use Rattle.dl_values.specs.declared.cell.Cell.{Cell}
 use Rattle.labels.specs.declared.txn_state.TxnState.TheVariants as state
 use Rattle.front_defs.specs.declared.catalogue.Table.{Table}

@@ -1,4 +1,4 @@
-use Rattle.std.proofs.Common.{◌∙◌, [], refl, sym, ap, ◌≡◌, rules, position, nat_eq, Some, None, get_or}
+use Rattle.std.proofs.Common.{◌∙◌, [], ap, ◌≡◌, rules, position, nat_eq, Some, None}
 use Rattle.front_core.specs.declared.kept.Kept.{Kept}
 use Rattle.front_core.specs.Parts.{ended_at, given}
 use Rattle.front_core.specs.Seen.{seen, waits}

@@ -1,4 +1,4 @@
-use Rattle.std.proofs.Common.{◌≡◌, ◌∙◌, ◌+◌, ◌++◌, ◌∷◌, [], None, arith, rules}
+use Rattle.std.proofs.Common.{◌≡◌, ◌∙◌, ◌+◌, ◌++◌, ◌∷◌, [], None, rules}
 use Rattle.std.specs.Map.{values_of}
 use Rattle.front_defs.specs.Catalogue.{table_named}
 use Rattle.front_core.specs.Catalogued.{key_of}

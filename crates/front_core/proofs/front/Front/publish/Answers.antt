@@ -1,8 +1,7 @@
-use Rattle.std.proofs.Common.{◌≡◌, Some, rules, subst}
-use Rattle.labels.specs.declared.txn_state.TxnState.TheVariants as state
-use Rattle.front_defs.specs.Stands.{View, waiting_for}
+use Rattle.std.proofs.Common.{◌≡◌, Some, rules}
+use Rattle.front_defs.specs.Stands.{waiting_for}
 use Rattle.front_defs.specs.Transactions.{due}
-use Rattle.front_core.specs.Parts.{IsPublished, StoresRows, with_end}
+use Rattle.front_core.specs.Parts.{StoresRows}
 use Rattle.front_core.specs.Seen.{seen, rows_in, folded_in}
 use Rattle.front_core.proofs.Texts.{published_by}
 use Rattle.front_core.proofs.front.Front.publish.Goals as goal

@@ -1,4 +1,4 @@
-use Rattle.std.proofs.Common.{◌≡◌, ◌∷◌, ◌<◌, ◌∙◌, [], ap, drop, find, length, nat_eq, rules, slice_index_or, sym}
+use Rattle.std.proofs.Common.{◌≡◌, ◌∙◌, [], ap, drop, find, nat_eq, rules}
 use Rattle.std.specs.Option.{option_copied, option_map}
 use Rattle.front_core.specs.declared.kept.Kept.{Kept}
 use Rattle.front_core.specs.Seen.{seen}
