@@ -1,0 +1,8 @@
+mod Puts
+mod Runs
+mod Begun
+mod Signs
+mod Strings
+mod Again
+mod Utf8
+mod Finished

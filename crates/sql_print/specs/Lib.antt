@@ -1,0 +1,4 @@
+pub mod Printing
+pub mod Steps
+pub mod Writable
+pub mod TextOf

@@ -1,0 +1,17 @@
+//! Laws of the definitions: what is written is read again.
+ghost use Rattle.std.specs.Prelude.{◌≡◌, List, map};
+ghost use Rattle.std.specs.Str.{IsUtf8};
+ghost use Rattle.sql_tokens.specs.declared.token.TokenKind.{TokenKind};
+ghost use Rattle.sql_tokens.specs.Tokens.{tokens_of};
+ghost use Rattle.sql_print.specs.Printing.{printed};
+ghost use Rattle.sql_print.specs.Writable.{AreWritable};
+
+/// The text of tokens has these tokens, and no others, wherever they stand in it.
+pub fn tokens_are_read_again()
+    ensures { (ts : List TokenKind) → AreWritable ts → map (λ t. t.kind) (tokens_of (printed ts)) ≡ ts }
+{}
+
+/// The text of tokens is UTF-8.
+pub fn written_tokens_are_text()
+    ensures { (ts : List TokenKind) → AreWritable ts → IsUtf8 (printed ts) }
+{}
