@@ -2,6 +2,10 @@
 //! language and stops at the first token that cannot stand there.
 #![tactic(auto)]
 
+mod one_token;
 mod stop;
+mod words;
 
+pub use one_token::{after_sign, after_word, count, integer, name, sign, text, word};
 pub use stop::Stop;
+pub use words::{is_reserved, same_word};
