@@ -1,11 +1,13 @@
 -- Reading from left to right, by the next token alone.
-use Rattle.std.specs.Prelude.{◌≡◌, ℕ, ℤ, zero, suc, Bool, false, List, [], ◌∷◌, length, Option, Some, None, Result, Ok, Err, if◌then◌else◌}
+use Rattle.std.specs.Prelude.{codes, ◌≡◌, ℕ, ℤ, zero, suc, Bool, false, List, [], ◌∷◌, length, Option, Some, None, Result, Ok, Err, if◌then◌else◌}
 use Rattle.sql_tokens.specs.declared.token.Token.{Token}
 use Rattle.sql_tokens.specs.declared.token.Sign.{Sign}
 use Rattle.sql_tokens.specs.declared.token.Sign.TheVariants as sign
 use Rattle.sql_grammar.specs.declared.stop.Stop.{Stop}
 use Rattle.sql_grammar.specs.declared.stop.Stop.TheVariants as stop
-use Rattle.sql_grammar.specs.Marks.{Mark, marked_sign, matches, a_word, a_sign, a_name, an_integer, a_count, a_text}
+use Rattle.sql_grammar.specs.declared.separator.Separator.{Separator}
+use Rattle.sql_grammar.specs.declared.separator.Separator.TheVariants as separator
+use Rattle.sql_grammar.specs.Marks.{Mark, marked_word, marked_sign, matches, a_word, a_sign, a_name, an_integer, a_count, a_text}
 
 -- a reader gives a value and the tokens after it, or how many tokens are left at the fault
 abbrev pub Reader : Type 0 → Type 0
@@ -96,6 +98,14 @@ list_of mark separator f = do
 
 abbrev pub commas_at : {A : Type 0} → Reader A → Reader (List A)
 commas_at f = list_of (marked_sign sign.Comma) (sign_at sign.Comma) f
+
+abbrev pub mark_of : Separator → Mark
+mark_of separator.Comma = marked_sign sign.Comma
+mark_of separator.And = marked_word (codes "AND")
+
+abbrev pub separator_at : Separator → Reader (Unit {0})
+separator_at separator.Comma = sign_at sign.Comma
+separator_at separator.And = word_at (codes "AND")
 
 -- ---- all of the tokens
 

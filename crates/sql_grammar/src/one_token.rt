@@ -1,5 +1,5 @@
 // Reading one token.
-ghost use Rattle.std.specs.Prelude.{◌≡◌, true, false, Ok, MatchOption};
+ghost use Rattle.std.specs.Prelude.{◌≡◌, ◌<◌, true, false, length, Ok, MatchOption};
 ghost use Rattle.sql_grammar.specs.Marks.{marked_word, marked_sign, mark_is, sign_code};
 ghost use Rattle.sql_grammar.specs.Reading.{Gives, heads, one, word_at, sign_at, name_at, integer_at, count_at, text_at};
 
@@ -49,7 +49,7 @@ fn is_sign(token: &Token, sign: Sign) -> bool
 /// What stands behind the word, where it comes next.
 #[tactic(auto, unfolding(crate::specs::Reading::word_at))]
 pub fn after_word<'a>(tokens: &'a [Token], word: &[u8]) -> Option<&'a [Token]>
-    ensures { MatchOption result (heads (one (marked_word word.now)) tokens.now ≡ false) (λ rest. (heads (one (marked_word word.now)) tokens.now ≡ true) × (word_at word.now tokens.now ≡ Ok (tt, rest.now))) }
+    ensures { MatchOption result (heads (one (marked_word word.now)) tokens.now ≡ false) (λ rest. (heads (one (marked_word word.now)) tokens.now ≡ true) × (word_at word.now tokens.now ≡ Ok (tt, rest.now)) × (length rest.now < length tokens.now)) }
 {
     match tokens {
         [token, rest @ ..] if is_word(token, word) => Some(rest),
@@ -60,7 +60,7 @@ pub fn after_word<'a>(tokens: &'a [Token], word: &[u8]) -> Option<&'a [Token]>
 /// What stands behind the sign, where it comes next.
 #[tactic(auto, unfolding(crate::specs::Reading::sign_at))]
 pub fn after_sign(tokens: &[Token], sign: Sign) -> Option<&[Token]>
-    ensures { MatchOption result (heads (one (marked_sign sign)) tokens.now ≡ false) (λ rest. (heads (one (marked_sign sign)) tokens.now ≡ true) × (sign_at sign tokens.now ≡ Ok (tt, rest.now))) }
+    ensures { MatchOption result (heads (one (marked_sign sign)) tokens.now ≡ false) (λ rest. (heads (one (marked_sign sign)) tokens.now ≡ true) × (sign_at sign tokens.now ≡ Ok (tt, rest.now)) × (length rest.now < length tokens.now)) }
 {
     match tokens {
         [token, rest @ ..] if is_sign(token, sign) => Some(rest),
