@@ -1,11 +1,13 @@
 -- Each reader reads its language, and stops at the first token that can't stand there.
-use Rattle.std.proofs.Common.{◌≡◌, ℕ, zero, suc, Bool, true, false, ◌||◌, cond, List, [], ◌∷◌, ◌++◌, length, ◌≤◌, Option, Some, None, Result, Ok, Err, refl, sym, ap, subst, ◌∙◌, append_assoc, arith, length-append, ◌⊎◌, inl, inr}
+use Rattle.std.proofs.Common.{◌≡◌, ℕ, zero, suc, Bool, true, false, ◌||◌, cond, List, [], ◌∷◌, ◌++◌, length, ◌≤◌, ◌<◌, Option, Some, None, Result, Ok, Err, refl, sym, ap, subst, ◌∙◌, append_assoc, arith, length-append, ◌⊎◌, inl, inr}
 use Rattle.std.proofs.lemmas.List.{append-nil}
 use Rattle.sql_tokens.specs.declared.token.Token.{Token}
 use Rattle.sql_grammar.specs.Marks.{Mark, matches, are_apart}
 use Rattle.sql_grammar.proofs.Apart.{matches-append, apart_sound}
 use Rattle.sql_grammar.specs.Lang.{Tok, Is, Then, Or, Maybe, Many, Begins, SameHead}
-use Rattle.sql_grammar.specs.Reading.{Reader, bind, next, is, of_option, tok, heads, either, maybe, many}
+use Rattle.sql_grammar.specs.Reading.{Reader, bind, next, is, of_option, tok, heads, either, maybe, many, Gives}
+use Rattle.sql_grammar.specs.declared.stop.Stop.{Stop}
+use Rattle.std.specs.Prelude.{IfOk}
 
 -- the next token doesn't go on
 pub record Stops (more : List Mark) (rest : List Token) : Type 0 where
@@ -629,3 +631,20 @@ module _ {A : Type 0} {P : A → List Token → Type 0} {f : List Token → Resu
     full = λ xs s. refl;
     some = record { value = []; more = []; spelled = refl };
   }
+
+-- ---- what a reader that takes a token leaves
+
+longer : (used last : List Token) → (used ≡ [] → ⊥) → length last < length (used ++ last)
+longer [] last h = absurd (h refl)
+longer (t ∷ used) last h = omega (arith, length-append used last)
+
+-- what is left is shorter
+pub shrinks : {A : Type 0} {P : A → List Token → Type 0} {f : List Token → Result (A × List Token) ℕ} {first more : List Mark} → Reads P f first more false → (tokens : List Token) (x : A) (rest : List Token) → f tokens ≡ Ok (x, rest) → length rest < length tokens
+shrinks {P = P} r tokens x rest e =
+    let m = r.found tokens x rest e in
+    rw m.parts (longer m.used rest (λ k. absurd (let z = r.full x (subst (P x) k m.spelled) in cc)))
+
+-- what a function that gives what the reader does leaves is shorter
+pub leaves_less : {A B : Type 0} {P : A → List Token → Type 0} {f : List Token → Result (A × List Token) ℕ} {first more : List Mark} → Reads P f first more false → (view : B → A × List Token) (tokens : List Token) (r : Result B Stop) → Gives view r (f tokens) → IfOk r (λ x. length (view x).1 < length tokens)
+leaves_less rp view tokens (Ok x) given = shrinks rp tokens (view x).0 (view x).1 given
+leaves_less rp view tokens (Err e) given = tt
