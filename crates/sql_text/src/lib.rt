@@ -1,10 +1,20 @@
-//! The statements of the service: the parts of a table's definition, and a query.
+//! The statements of the service, and the reader that gives the statement of a text or the first fault of it.
 #![tactic(auto)]
 
+mod clause;
 mod key_clause;
+mod part;
 mod plain_def;
 mod query;
+mod sql_error;
+mod stmt;
+mod table_def;
 
+pub use clause::{AlteredColumn, Clause, ColumnPlace};
 pub use key_clause::KeyClause;
+pub use part::{Part, PartBounds};
 pub use plain_def::{PlainColumn, PlainDef};
 pub use query::{AggFn, Check, CompareOp, Filter, Item, Literal, OrderBy, OrderKey, Query};
+pub use sql_error::{SqlError, SqlFault, SqlFaultKind};
+pub use stmt::{AdminTask, AlterKind, Stmt, TransactionKey};
+pub use table_def::{ColumnText, ColumnType, DefaultText, Property, Ranges, TableDef};
