@@ -1,4 +1,4 @@
-mod Puts
+pub mod Puts
 mod Runs
 mod Begun
 mod Signs
@@ -6,3 +6,4 @@ mod Strings
 mod Again
 mod Utf8
 mod Finished
+mod Listed

@@ -39,3 +39,11 @@ put_next w v z ts i t l e p h = ap (λ x. put x (drop (i + 1) ts)) p ∙ sym (pu
 pub all_put : (w : List ℕ × Bool) (ts : List TokenKind) → w ≡ put ([], true) ts → w.0 ≡ printed ts
 unfolding put
 all_put w ts e = ap (λ x. x.0) e
+
+-- two steps of writing are one
+pub put_put : (w : List ℕ × Bool) (a b : List TokenKind) → put (put w a) b ≡ put w (a ++ b)
+put_put w a b = sym (put_append w a b)
+
+-- the same, of equations
+pub then_put : (w v z : List ℕ × Bool) (a b : List TokenKind) → v ≡ put w a → z ≡ put v b → z ≡ put w (a ++ b)
+then_put w v z a b p q = q ∙ ap (λ x. put x b) p ∙ put_put w a b

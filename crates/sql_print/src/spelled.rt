@@ -1,5 +1,5 @@
 // The texts of tokens.
-ghost use Rattle.std.specs.Prelude.{◌≡◌, ◌++◌, OnOk};
+ghost use Rattle.std.specs.Prelude.{◌≡◌, ◌++◌, OnOk, decimal};
 ghost use Rattle.std.specs.Fmt.{signed_decimal};
 ghost use Rattle.sql_tokens.specs.declared.token.TokenKind.TheVariants as kind;
 ghost use Rattle.sql_print.specs.Printing.{sign_text, escape, escapes, spelled};
@@ -77,6 +77,15 @@ pub fn add_name(out: &mut Vec<u8>, bytes: &[u8]) -> Result<(), NoMemory>
 /// Adds an integer in decimal.
 pub fn add_integer(out: &mut Vec<u8>, value: i64) -> Result<(), NoMemory>
     ensures { OnOk result (out.new.items ≡ out.old.items ++ signed_decimal value) }
+{
+    let mut digits = Buffer::new();
+    out.extend_from_slice(digits.format(value).as_bytes())?;
+    Ok(())
+}
+
+/// Adds a count in decimal.
+pub fn add_count(out: &mut Vec<u8>, value: u64) -> Result<(), NoMemory>
+    ensures { OnOk result (out.new.items ≡ out.old.items ++ decimal value) }
 {
     let mut digits = Buffer::new();
     out.extend_from_slice(digits.format(value).as_bytes())?;

@@ -15,9 +15,9 @@ fn add_token(writer: &mut TokenWriter, token: &TokenKind) -> Result<(), NoMemory
 {
     match token {
         TokenKind::Word(word) => writer.word(word.bytes()),
-        TokenKind::Quoted(name) => writer.name(name.bytes()),
+        TokenKind::Quoted(name) => writer.name(name),
         TokenKind::Int(value) => writer.integer(*value),
-        TokenKind::Text(text) => writer.string(text.bytes()),
+        TokenKind::Text(text) => writer.string(text),
         TokenKind::Sign(sign) => writer.sign(*sign),
         TokenKind::Beyond | TokenKind::Stray => writer.word(b""),
     }

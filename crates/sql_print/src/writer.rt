@@ -3,8 +3,8 @@ ghost use Rattle.std.specs.Prelude.{◌≡◌};
 ghost use Rattle.sql_tokens.specs.declared.token.TokenKind.TheVariants as kind;
 ghost use Rattle.sql_print.specs.Printing.{leans, is_open};
 
-use crate::spelled::{add_integer, add_name, add_string, sign_text};
-use dl_values::NoMemory;
+use crate::spelled::{add_count, add_integer, add_name, add_string, sign_text};
+use dl_values::{Name, NoMemory, Text};
 use sql_tokens::Sign;
 use std::alloc::Global;
 use std::marker::Model;
@@ -25,7 +25,7 @@ impl Model for TokenWriter {
 }
 
 impl TokenWriter {
-    ghost use Rattle.std.specs.Prelude.{◌≡◌, [], ◌∷◌, ◌++◌, ◌||◌, true, List, OnOk, IfOk, string_bytes, if◌then◌else◌};
+    ghost use Rattle.std.specs.Prelude.{◌≡◌, pos, [], ◌∷◌, ◌++◌, ◌||◌, true, List, OnOk, IfOk, string_bytes, if◌then◌else◌};
     ghost use Rattle.sql_tokens.specs.declared.token.TokenKind.{TokenKind};
     ghost use Rattle.sql_tokens.specs.declared.token.TokenKind.TheVariants as kind;
     ghost use Rattle.sql_print.specs.Steps.{put};
@@ -64,11 +64,11 @@ impl TokenWriter {
 
     /// Adds a name in backquotes.
     #[tactic(auto, unfolding(crate::specs::Steps::put, crate::specs::Steps::is_glued, crate::specs::Printing::behind))]
-    pub fn name(&mut self, name: &[u8]) -> Result<(), NoMemory>
+    pub fn name(&mut self, name: &Name) -> Result<(), NoMemory>
         ensures { OnOk result (self.new ≡ put self.old (kind.Quoted name.now ∷ [])) }
     {
         self.make_gap(false)?;
-        add_name(&mut self.text, name)?;
+        add_name(&mut self.text, name.bytes())?;
         self.glued = false;
         Ok(())
     }
@@ -84,13 +84,24 @@ impl TokenWriter {
         Ok(())
     }
 
-    /// Adds a string.
+    /// Adds a count.
     #[tactic(auto, unfolding(crate::specs::Steps::put, crate::specs::Steps::is_glued, crate::specs::Printing::behind))]
-    pub fn string(&mut self, bytes: &[u8]) -> Result<(), NoMemory>
-        ensures { OnOk result (self.new ≡ put self.old (kind.Text bytes.now ∷ [])) }
+    pub fn count(&mut self, value: u64) -> Result<(), NoMemory>
+        ensures { OnOk result (self.new ≡ put self.old (kind.Int (pos value) ∷ [])) }
     {
         self.make_gap(false)?;
-        add_string(&mut self.text, bytes)?;
+        add_count(&mut self.text, value)?;
+        self.glued = false;
+        Ok(())
+    }
+
+    /// Adds a string.
+    #[tactic(auto, unfolding(crate::specs::Steps::put, crate::specs::Steps::is_glued, crate::specs::Printing::behind))]
+    pub fn string(&mut self, text: &Text) -> Result<(), NoMemory>
+        ensures { OnOk result (self.new ≡ put self.old (kind.Text text.now ∷ [])) }
+    {
+        self.make_gap(false)?;
+        add_string(&mut self.text, text.bytes())?;
         self.glued = false;
         Ok(())
     }
