@@ -1,4 +1,4 @@
-use Rattle.std.proofs.Common.{◌∷◌, ap, is_ok}
+use Rattle.std.proofs.Common.{ap, is_ok}
 use Rattle.std.proofs.lemmas.Result.{err_from_is_err_and}
 use Rattle.std.proofs.ResultArms.{chosen}
 use Rattle.sql_grammar.specs.Reading.{mark_of, separator_at}
