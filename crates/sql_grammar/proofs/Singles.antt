@@ -1,16 +1,18 @@
 -- Single tokens, and lists with separators, are read by their readers.
-use Rattle.std.proofs.Common.{◌≡◌, ℕ, ℤ, pos, Bool, true, false, not, List, [], ◌∷◌, ◌++◌, Option, Some, None, Result, refl, ap}
+use Rattle.std.proofs.Common.{◌≡◌, ◌<◌, length,  ℕ, ℤ, pos, Bool, true, false, not, List, [], ◌∷◌, ◌++◌, Option, Some, None, Result, refl, ap}
 use Rattle.sql_tokens.specs.declared.token.Token.{Token}
 use Rattle.sql_tokens.specs.declared.token.TokenKind.{TokenKind}
 use Rattle.sql_tokens.specs.declared.token.TokenKind.TheVariants as kind
 use Rattle.sql_tokens.specs.declared.token.Sign.{Sign}
 use Rattle.sql_tokens.specs.declared.token.Sign.TheVariants as sign
+use Rattle.std.specs.Prelude.{IfOk}
+use Rattle.sql_grammar.specs.declared.stop.Stop.{Stop}
 use Rattle.sql_grammar.specs.Marks.{Mark, marked_word, marked_sign, marked_name, marked_integer, marked_text, lower, is_reserved, kind_is, mark_is, are_apart, whether, a_word, a_sign, name_in, a_name, count_in, a_count, text_in, a_text, integer_in, an_integer}
 use Rattle.sql_grammar.specs.Lang.{Tok, ListOf, Commas, Word, Sign_, Means, Stands}
-use Rattle.sql_grammar.specs.Reading.{more_of, list_of, commas_at, word_at, sign_at, name_at, integer_at, count_at, text_at, means_at, stands_at}
-use Rattle.sql_grammar.proofs.Laws.{Reads, tok_reads, is_reads, next_reads, many_reads}
+use Rattle.sql_grammar.specs.Reading.{Gives, more_of, list_of, commas_at, word_at, sign_at, name_at, integer_at, count_at, text_at, means_at, stands_at}
+use Rattle.sql_grammar.proofs.Laws.{Reads, leaves_less, tok_reads, is_reads, next_reads, many_reads}
 
-whether_some : (b : Bool) (x : Unit {0}) → whether b ≡ Some x → b ≡ true
+pub whether_some : (b : Bool) (x : Unit {0}) → whether b ≡ Some x → b ≡ true
 whether_some true x e = refl
 whether_some false x e = absurd cc
 
@@ -43,6 +45,9 @@ name_starts k x e = absurd cc
 pub name_reads : Reads (Tok a_name) name_at (marked_name ∷ []) [] false
 unfolding name_at
 name_reads = tok_reads a_name (marked_name ∷ []) (made (kind.Quoted [])) [] refl (λ t x e. name_starts t.kind x e)
+
+pub name_leaves_less : {B : Type 0} (view : B → List ℕ × List Token) (tokens : List Token) (r : Result B Stop) → Gives view r (name_at tokens) → IfOk r (λ x. length (view x).1 < length tokens)
+name_leaves_less view tokens r given = leaves_less name_reads view tokens r given
 
 integer_starts : (k : TokenKind) (x : ℤ) → integer_in k ≡ Some x → kind_is marked_integer k ≡ true
 integer_starts (kind.Int v) x e = refl

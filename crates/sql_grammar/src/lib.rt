@@ -10,7 +10,7 @@ mod stop;
 mod words;
 
 pub use lists::{list, list_from};
-pub use one_token::{after_sign, after_word, count, integer, name, sign, text, word};
+pub use one_token::{after_sign, after_word, count, heads_name, integer, name, sign, text, word};
 pub use piece::Piece;
 pub use separator::Separator;
 pub use stop::Stop;
