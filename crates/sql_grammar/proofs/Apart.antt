@@ -6,7 +6,7 @@ use Rattle.std.proofs.lemmas.Slice.Eq.{bytes_eq-Decides}
 use Rattle.sql_tokens.specs.declared.token.Token.{Token}
 use Rattle.sql_tokens.specs.declared.token.TokenKind.{TokenKind}
 use Rattle.sql_tokens.specs.declared.token.TokenKind.TheVariants as kind
-use Rattle.sql_grammar.specs.Marks.{Mark, marked_word, marked_sign, marked_name, lower, same_word, is_reserved, sign_code, kind_is, mark_is, matches, marks_apart, apart_from, are_apart}
+use Rattle.sql_grammar.specs.Marks.{Mark, marked_word, marked_sign, marked_name, lower, is_reserved, sign_code, kind_is, mark_is, matches, marks_apart, apart_from, are_apart}
 
 or-assoc : (a b c : Bool) → ((a || b) || c) ≡ (a || (b || c))
 or-assoc true b c = refl

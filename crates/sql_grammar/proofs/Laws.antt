@@ -219,6 +219,10 @@ reads_along to from r = record {
   some = record { value = r.some.value; more = r.some.more; spelled = to r.some.value r.some.more r.some.spelled };
 }
 
+-- the same, with more marks than it begins with
+pub reads_wide : {A : Type 0} {P : A → List Token → Type 0} {f : List Token → Result (A × List Token) ℕ} {first wide more : List Mark} {empty : Bool} → ((t : Token) → matches first t ≡ true → matches wide t ≡ true) → Reads P f first more empty → Reads P f wide more empty
+reads_wide h r = record { found = r.found; only = r.only; fault = r.fault; starts = λ x t back s. h t (r.starts x t back s); full = r.full; some = r.some }
+
 -- ---- one after the other
 
 module _ {A B : Type 0} {P : A → List Token → Type 0} {Q : A → B → List Token → Type 0} {f : List Token → Result (A × List Token) ℕ} {g : A → List Token → Result (B × List Token) ℕ}

@@ -2,3 +2,4 @@ pub mod Apart
 pub mod Laws
 pub mod Loops
 pub mod Whole
+pub mod Singles

@@ -5,7 +5,7 @@ use Rattle.sql_tokens.specs.declared.token.Token.{Token}
 use Rattle.sql_grammar.specs.declared.stop.Stop.{Stop}
 use Rattle.sql_grammar.specs.declared.stop.Stop.TheVariants as stop
 use Rattle.sql_grammar.specs.Marks.{Mark}
-use Rattle.sql_grammar.specs.Reading.{bind, is, heads, one, many, more_of, list_of, Fails, ◌>>◌}
+use Rattle.sql_grammar.specs.Reading.{bind, is, heads, one, many, more_of, list_from, Fails, ◌>>◌}
 
 abbrev pub with_front : {A : Type 0} → List A → Result (List A × List Token) ℕ → Result (List A × List Token) ℕ
 with_front front r = bind r (λ ys. is (front ++ ys))
@@ -25,9 +25,9 @@ regroup front y (Ok z) = ap (λ l. Ok (l, z.1)) (sym (append_assoc front (y ∷ 
 regroup front y (Err n) = refl
 
 module _ {A : Type 0} (mark : Mark) (separator : List Token → Result (Unit {0} × List Token) ℕ) (f : List Token → Result (A × List Token) ℕ) where
-  pub begins : (tokens : List Token) (x : A) (rest : List Token) → f tokens ≡ Ok (x, rest) → Reading mark (separator >> f) (x ∷ []) rest (list_of mark separator f tokens)
+  pub begins : (tokens : List Token) (x : A) → Reading mark (separator >> f) (x ∷ []) tokens (list_from mark separator f x tokens)
   unfolding more_of
-  begins tokens x rest e = record { fuel = length rest; enough = omega arith; so_far = rw e refl }
+  begins tokens x = record { fuel = length tokens; enough = omega arith; so_far = refl }
 
   pub goes_on : (front : List A) (rest after : List Token) (y : A) (last : List Token) (total : Result (List A × List Token) ℕ) → heads (one mark) rest ≡ true → separator rest ≡ Ok (tt, after) → length after < length rest
       → f after ≡ Ok (y, last) → length last < length after → Reading mark (separator >> f) front rest total → Reading mark (separator >> f) (front ++ y ∷ []) last total
@@ -39,9 +39,6 @@ module _ {A : Type 0} (mark : Mark) (separator : List Token → Result (Unit {0}
           let k : (separator >> f) rest ≡ Ok (y, last) = ap (λ r. bind r (λ _. f)) a ∙ b in
           let u : many (one mark) (separator >> f) (suc fuel) rest ≡ bind (many (one mark) (separator >> f) fuel last) (λ xs. is (y ∷ xs)) = rw (h, k) refl in
           record { fuel = fuel; enough = omega arith; so_far = sym (regroup front y (many (one mark) (separator >> f) fuel last)) ∙ ap (with_front front) (sym u) ∙ so }
-
-  pub fails_first : (tokens : List Token) (n : ℕ) → f tokens ≡ Err n → list_of mark separator f tokens ≡ Err n
-  fails_first tokens n e = rw e refl
 
   pub fails_after : (front : List A) (rest after : List Token) (total : Result (List A × List Token) ℕ) (n : ℕ) → heads (one mark) rest ≡ true → separator rest ≡ Ok (tt, after) → length after < length rest → f after ≡ Err n
       → Reading mark (separator >> f) front rest total → total ≡ Err n

@@ -84,17 +84,26 @@ count_at = tok a_count
 unfoldable pub text_at : Reader (List ℕ)
 text_at = tok a_text
 
+-- the word stands for the value
+abbrev pub means_at : {A : Type 0} → List ℕ → A → Reader A
+means_at w x = word_at w >> is x
+
+-- the sign stands for the value
+abbrev pub stands_at : {A : Type 0} → Sign → A → Reader A
+stands_at s x = sign_at s >> is x
+
 abbrev pub one : Mark → Token → Bool
 one m = matches (m ∷ [])
 
 unfoldable pub more_of : {A : Type 0} → Mark → Reader A → Reader (List A)
 more_of mark f tokens = many (one mark) f (length tokens) tokens
 
+-- more of them after separators, where the first was read
+abbrev pub list_from : {A : Type 0} → Mark → Reader (Unit {0}) → Reader A → A → Reader (List A)
+list_from mark separator f x = more_of mark (separator >> f) >>= λ xs. is (x ∷ xs)
+
 abbrev pub list_of : {A : Type 0} → Mark → Reader (Unit {0}) → Reader A → Reader (List A)
-list_of mark separator f = do
-  x ← f
-  xs ← more_of mark (separator >> f)
-  is (x ∷ xs)
+list_of mark separator f = f >>= λ x. list_from mark separator f x
 
 abbrev pub commas_at : {A : Type 0} → Reader A → Reader (List A)
 commas_at f = list_of (marked_sign sign.Comma) (sign_at sign.Comma) f

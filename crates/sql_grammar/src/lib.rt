@@ -9,8 +9,8 @@ mod separator;
 mod stop;
 mod words;
 
-pub use one_token::{after_sign, after_word, count, integer, name, sign, text, word};
-pub use lists::list;
+pub use lists::{list, list_from};
+pub use one_token::{after_sign, after_word, count, heads_name, integer, name, sign, text, word};
 pub use piece::Piece;
 pub use separator::Separator;
 pub use stop::Stop;

@@ -1,6 +1,6 @@
 // Reading one token.
 ghost use Rattle.std.specs.Prelude.{◌≡◌, ◌<◌, true, false, length, Ok, MatchOption};
-ghost use Rattle.sql_grammar.specs.Marks.{marked_word, marked_sign, mark_is, sign_code};
+ghost use Rattle.sql_grammar.specs.Marks.{marked_word, marked_sign, marked_name, mark_is, sign_code};
 ghost use Rattle.sql_grammar.specs.Reading.{Gives, heads, one, word_at, sign_at, name_at, integer_at, count_at, text_at};
 
 use crate::stop::Stop;
@@ -43,6 +43,26 @@ fn is_sign(token: &Token, sign: Sign) -> bool
     match &token.kind {
         TokenKind::Sign(found) => code(*found) == code(sign),
         _ => false,
+    }
+}
+
+fn is_name(token: &Token) -> bool
+    ensures { result ≡ mark_is marked_name token.now }
+{
+    match &token.kind {
+        TokenKind::Word(found) => !is_reserved(found.bytes()),
+        TokenKind::Quoted(_) => true,
+        _ => false,
+    }
+}
+
+/// Whether a name comes next.
+pub fn heads_name(tokens: &[Token]) -> bool
+    ensures { result ≡ heads (one marked_name) tokens.now }
+{
+    match tokens {
+        [token, ..] => is_name(token),
+        [] => false,
     }
 }
 

@@ -48,9 +48,11 @@ Column = do
   Comment
   Is (record { name = n; kind = t; agg = a; nullable = u; default = d })
 
--- [ENGINE '=' OLAP]
-unfoldable pub Engine : Lang (Option (Unit {0}))
-Engine = Maybe (Word (codes "ENGINE") >> (Sign_ sign.Equal >> Word (codes "OLAP")))
+-- [ENGINE '=' OLAP], which is dropped
+unfoldable pub Engine : Lang (Unit {0})
+Engine = do
+  Maybe (Word (codes "ENGINE") >> (Sign_ sign.Equal >> Word (codes "OLAP")))
+  Is tt
 
 -- [(DUPLICATE | UNIQUE | AGGREGATE) KEY names]
 unfoldable pub KeyModel : Lang Model

@@ -5,3 +5,5 @@ pub mod Alter
 pub mod Show
 pub mod Statements
 pub mod Faults
+pub mod ReadNames
+pub mod ReadSelect

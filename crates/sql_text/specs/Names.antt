@@ -71,6 +71,8 @@ Nullable = do
 unfoldable pub Default : Lang (Option DefaultText)
 Default = Maybe (Word (codes "DEFAULT") >> Or (Means (codes "NULL") default.Null) (Literal_ >>= λ l. Is (default.Value l)))
 
--- [COMMENT string]
-unfoldable pub Comment : Lang (Option (List ℕ))
-Comment = Maybe (Word (codes "COMMENT") >> String)
+-- [COMMENT string], which is dropped
+unfoldable pub Comment : Lang (Unit {0})
+Comment = do
+  Maybe (Word (codes "COMMENT") >> String)
+  Is tt

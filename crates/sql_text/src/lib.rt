@@ -3,9 +3,11 @@
 
 mod clause;
 mod key_clause;
+mod names;
 mod part;
 mod plain_def;
 mod query;
+mod select;
 mod sql_error;
 mod stmt;
 mod table_def;

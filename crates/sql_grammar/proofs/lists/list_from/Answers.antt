@@ -1,14 +1,14 @@
-use Rattle.std.proofs.Common.{◌∷◌, ap, is_ok}
+use Rattle.std.proofs.Common.{ap, is_ok}
 use Rattle.std.proofs.lemmas.Result.{err_from_is_err_and}
 use Rattle.std.proofs.ResultArms.{chosen}
 use Rattle.sql_grammar.specs.Reading.{mark_of, separator_at}
 use Rattle.sql_grammar.proofs.Loops.{fails, begins, goes_on, fails_after, ends}
-use Rattle.sql_grammar.proofs.lists.list.Goals as goal
+use Rattle.sql_grammar.proofs.lists.list_from.Goals as goal
 
 pub more-init : goal.more-init
 more-init g c =
     let pushed = chosen _ _ _ _ c.push.ensures.items (ap is_ok c.in_ok-push.was) in
-    rw (pushed, c.new-found.ensures.items) (begins (mark_of c.args.separator) (separator_at c.args.separator) g.T.Piece.reader _ _ _ c.in_ok-first.ensures.gives)
+    rw (pushed, c.new-found.ensures.items) (begins (mark_of c.args.separator) (separator_at c.args.separator) g.T.Piece.reader _ _)
 
 pub returns-in_err-piece : goal.returns-in_err-piece
 returns-in_err-piece g c =
