@@ -7,3 +7,6 @@ mod Again
 mod Utf8
 mod Finished
 mod Listed
+mod Prints
+mod PrintsTokens
+mod PrintsParts

@@ -100,7 +100,7 @@ run_text : (bs : List ℕ) → list_all in_word bs ≡ true → IsUtf8 bs
 run_text [] h = IsUtf8-nil
 run_text (b ∷ bs) h = ascii_then b bs (in_word_ascii b (left_true _ _ h)) (run_text bs (right_true _ _ h))
 
-word_text : (word : List ℕ) → IsWord word → IsUtf8 word
+pub word_text : (word : List ℕ) → IsWord word → IsUtf8 word
 word_text [] w = absurd w
 word_text (b ∷ bs) w = ascii_then b bs (begins_word_ascii b w.0) (run_text bs w.1)
 

@@ -8,3 +8,4 @@ pub mod ShownCreate
 pub mod ShownAlter
 pub mod ShownShow
 pub mod Shown
+pub mod Fit

@@ -1,9 +1,12 @@
 //! Laws of the definitions: what is written is read again.
-ghost use Rattle.std.specs.Prelude.{◌≡◌, List, map};
+ghost use Rattle.std.specs.Prelude.{◌≡◌, ℕ, List, map};
 ghost use Rattle.std.specs.Str.{IsUtf8};
 ghost use Rattle.sql_tokens.specs.declared.token.TokenKind.{TokenKind};
 ghost use Rattle.sql_tokens.specs.Tokens.{tokens_of};
+ghost use Rattle.sql_text.specs.declared.stmt.Stmt.{Stmt};
+ghost use Rattle.sql_text.specs.Statements.{Spells};
 ghost use Rattle.sql_print.specs.Printing.{printed};
+ghost use Rattle.sql_print.specs.Shown.{shown};
 ghost use Rattle.sql_print.specs.Writable.{AreWritable};
 
 /// The text of tokens has these tokens, and no others, wherever they stand in it.
@@ -14,4 +17,10 @@ pub fn tokens_are_read_again()
 /// The text of tokens is UTF-8.
 pub fn written_tokens_are_text()
     ensures { (ts : List TokenKind) → AreWritable ts → IsUtf8 (printed ts) }
+{}
+
+/// What a text has for a statement can be written, and its text has it again.
+pub fn statements_are_read_again()
+    ensures writable { (s : Stmt) (text : List ℕ) → IsUtf8 text → Spells s text → AreWritable (shown s) }
+    ensures again { (s : Stmt) (text : List ℕ) → IsUtf8 text → Spells s text → Spells s (printed (shown s)) }
 {}
