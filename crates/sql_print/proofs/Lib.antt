@@ -10,3 +10,10 @@ mod Listed
 mod Prints
 mod PrintsTokens
 mod PrintsParts
+mod PrintsSelect
+mod PrintsCreate
+mod PrintsAlter
+mod PrintsShow
+mod PrintsStatement
+mod Unescaped
+mod Fits

@@ -1,9 +1,9 @@
 -- Parts of the grammar whose values are written so that they are read again, one lemma a combinator.
-use Rattle.std.proofs.Common.{◌≡◌, ◌⊎◌, inl, inr, ℕ, Bool, true, false, Option, Some, None, is_some, List, [], ◌∷◌, ◌++◌, map, refl, sym, ap, subst, ◌∙◌}
+use Rattle.std.proofs.Common.{◌≡◌, ◌⊎◌, inl, inr, Option, Some, None, is_some, List, [], ◌∷◌, ◌++◌, refl, sym, ap, subst, ◌∙◌}
 use Rattle.std.proofs.lemmas.List.{append-nil}
 use Rattle.sql_tokens.specs.declared.token.Token.{Token}
 use Rattle.sql_tokens.specs.declared.token.TokenKind.{TokenKind}
-use Rattle.sql_grammar.specs.Lang.{Tok, Is, Then, Or, Maybe, Many, ListOf}
+use Rattle.sql_grammar.specs.Lang.{Tok, Is, Then, Or, Maybe, Many, ListOf, or_else}
 use Rattle.sql_print.specs.Writable.{IsWritable, AreWritable}
 use Rattle.sql_print.specs.Fit.{IsFit, AreFit}
 use Rattle.sql_print.specs.Parts.{maybe, when, behind_each, separated}
@@ -85,22 +85,22 @@ pub bind : {A B : Type 0} {P : A → List Token → Type 0} {S : A → List Toke
     → Prints P S → ((v : A) (ks : List TokenKind) → S v ks → Prints (Q v) (λ y js. R y (ks ++ js))) → Prints (Then P Q) R
 bind first next = record {
   law = λ y ts h fit.
-    let f = fit_parts h.front h.back (subst AreFit h.parts fit) in
-    let p = first.law h.value h.front h.first f.0 in
-    let q = (next h.value p.tokens p.right).law y h.back h.second f.1 in
-    record {
-      tokens = p.tokens ++ q.tokens;
-      right = q.right;
-      writable = both_writable p.tokens q.tokens p.writable q.writable;
-      spelled = λ us e. let s = split p.tokens q.tokens us e in record {
-        value = h.value;
-        front = s.0;
-        back = s.1;
-        parts = s.2;
-        first = p.spelled s.0 s.3;
-        second = q.spelled s.1 s.4;
+      let f = fit_parts h.front h.back (subst AreFit h.parts fit) in
+      let p = first.law h.value h.front h.first f.0 in
+      let q = (next h.value p.tokens p.right).law y h.back h.second f.1 in
+      record {
+        tokens = p.tokens ++ q.tokens;
+        right = q.right;
+        writable = both_writable p.tokens q.tokens p.writable q.writable;
+        spelled = λ us e. let s = split p.tokens q.tokens us e in record {
+          value = h.value;
+          front = s.0;
+          back = s.1;
+          parts = s.2;
+          first = p.spelled s.0 s.3;
+          second = q.spelled s.1 s.4;
+        };
       };
-    };
 }
 
 pub part : {A B : Type 0} {P : A → List Token → Type 0} {show : A → List TokenKind} {Q : A → B → List Token → Type 0} {R : B → List TokenKind → Type 0}
@@ -112,10 +112,12 @@ pub last : {A B : Type 0} {P : A → List Token → Type 0} {show : A → List T
 last {show = show} {R = R} made first right = part first (λ v. is (λ y js. R y (show v ++ js)) (made v) (subst (R (made v)) (sym (append-nil (show v))) (right v)))
 
 pub or : {A : Type 0} {P Q : A → List Token → Type 0} {R : A → List TokenKind → Type 0} → Prints P R → Prints Q R → Prints (Or P Q) R
-or {A} {P} {Q} {R} p q = record { law = λ y ts h fit. elim h [
-  | inl a ↦ let r = p.law y ts a fit in record { tokens = r.tokens; right = r.right; writable = r.writable; spelled = λ us e. inl (r.spelled us e) }
-  | inr b ↦ let r = q.law y ts b fit in record { tokens = r.tokens; right = r.right; writable = r.writable; spelled = λ us e. inr (r.spelled us e) }
-] }
+or {A} {P} {Q} {R} p q = record {
+  law = λ y ts h fit. elim h [
+    | inl a ↦ let r = p.law y ts a fit in record { tokens = r.tokens; right = r.right; writable = r.writable; spelled = λ us e. inl (r.spelled us e) }
+    | inr b ↦ let r = q.law y ts b fit in record { tokens = r.tokens; right = r.right; writable = r.writable; spelled = λ us e. inr (r.spelled us e) }
+  ];
+}
 
 pub optional : {A : Type 0} {P : A → List Token → Type 0} {show : A → List TokenKind} → Prints P (By show) → Prints (Maybe P) (By (maybe show))
 unfolding maybe AreWritable
@@ -138,14 +140,14 @@ flag {P} {ks} p = record { law = go }
 pub skip : {A B : Type 0} {P : A → List Token → Type 0} {Q : B → List Token → Type 0} {R : B → List TokenKind → Type 0} (v : A) → P v [] → Prints Q R → Prints (Then P (λ _. Q)) R
 skip v without q = record {
   law = λ y ts h fit.
-    let f = fit_parts h.front h.back (subst AreFit h.parts fit) in
-    let r = q.law y h.back h.second f.1 in
-    record {
-      tokens = r.tokens;
-      right = r.right;
-      writable = r.writable;
-      spelled = λ us e. record { value = v; front = []; back = us; parts = refl; first = without; second = r.spelled us e };
-    };
+      let f = fit_parts h.front h.back (subst AreFit h.parts fit) in
+      let r = q.law y h.back h.second f.1 in
+      record {
+        tokens = r.tokens;
+        right = r.right;
+        writable = r.writable;
+        spelled = λ us e. record { value = v; front = []; back = us; parts = refl; first = without; second = r.spelled us e };
+      };
 }
 
 -- any number of parts, each with a separator before it
@@ -174,3 +176,70 @@ pub list : {A : Type 0} {separator : Token → Option (Unit {0})} {P : A → Lis
     → Prints (Tok separator) (By (λ _. k ∷ [])) → Prints P (By show) → ((x : A) (xs : List A) → R (x ∷ xs) (separated k show (x ∷ xs))) → Prints (ListOf separator P) R
 unfolding separated
 list k sep p right = part p (λ x. last (λ xs. x ∷ xs) (many k sep p) (λ xs. right x xs))
+
+-- a value that is written by nothing, and others
+pub usual : {A : Type 0} {P Q : A → List Token → Type 0} {show : A → List TokenKind} (d : A) → show d ≡ [] → ((x : A) (ts : List Token) → P x ts → d ≡ x) → Prints Q (By show)
+    → Prints (Then (Maybe (Or P Q)) (λ o. Is (or_else d o))) (By show)
+unfolding AreWritable
+usual {A} {P} {Q} {show} d short only q = record { law = λ y ts h fit. pick h.value y h.second.1 h.front h.first (fit_parts h.front h.back (subst AreFit h.parts fit)).0 }
+  where
+    Whole : A → List Token → Type 0
+    Whole = Then (Maybe (Or P Q)) (λ o. Is (or_else d o))
+
+    plain : Printed Whole (By show) d
+    plain = record { tokens = []; right = sym short; writable = tt; spelled = λ us e. record { value = None; front = []; back = us; parts = refl; first = refl; second = (none us e, refl) } }
+
+    other : (x : A) (ts : List Token) → Q x ts → AreFit ts → Printed Whole (By show) x
+    other x ts h fit = let r = q.law x ts h fit in record {
+      tokens = r.tokens;
+      right = r.right;
+      writable = r.writable;
+      spelled = λ us e. record { value = Some x; front = us; back = []; parts = sym (append-nil us); first = inr (r.spelled us e); second = (refl, refl) };
+    }
+
+    pick : (o : Option A) (y : A) → or_else d o ≡ y → (front : List Token) → Maybe (Or P Q) o front → AreFit front → Printed Whole (By show) y
+    pick None y e front h fit = subst (Printed Whole (By show)) e plain
+    pick (Some x) y e front (inl h) fit = subst (Printed Whole (By show)) (only x front h ∙ e) plain
+    pick (Some x) y e front (inr h) fit = subst (Printed Whole (By show)) e (other x front h fit)
+
+-- the same, where nothing else spells that value
+pub or_else_none : {A : Type 0} {P : A → List Token → Type 0} {show : A → List TokenKind} (d : A) → show d ≡ [] → Prints P (By show) → Prints (Then (Maybe P) (λ o. Is (or_else d o))) (By show)
+unfolding AreWritable
+or_else_none {A} {P} {show} d short p = record { law = λ y ts h fit. pick h.value y h.second.1 h.front h.first (fit_parts h.front h.back (subst AreFit h.parts fit)).0 }
+  where
+    Whole : A → List Token → Type 0
+    Whole = Then (Maybe P) (λ o. Is (or_else d o))
+
+    plain : Printed Whole (By show) d
+    plain = record { tokens = []; right = sym short; writable = tt; spelled = λ us e. record { value = None; front = []; back = us; parts = refl; first = refl; second = (none us e, refl) } }
+
+    other : (x : A) (ts : List Token) → P x ts → AreFit ts → Printed Whole (By show) x
+    other x ts h fit = let r = p.law x ts h fit in record {
+      tokens = r.tokens;
+      right = r.right;
+      writable = r.writable;
+      spelled = λ us e. record { value = Some x; front = us; back = []; parts = sym (append-nil us); first = r.spelled us e; second = (refl, refl) };
+    }
+
+    pick : (o : Option A) (y : A) → or_else d o ≡ y → (front : List Token) → Maybe P o front → AreFit front → Printed Whole (By show) y
+    pick None y e front h fit = subst (Printed Whole (By show)) e plain
+    pick (Some x) y e front h fit = subst (Printed Whole (By show)) e (other x front h fit)
+
+-- of two ways to spell one value the first is written
+pub first_way : {A : Type 0} {P Q : A → List Token → Type 0} {R : A → List TokenKind → Type 0} → ((y : A) (ts : List Token) → Q y ts → AreFit ts → Printed P R y ⊎ Printed Q R y) → Prints P R → Prints (Or P Q) R
+first_way {A} {P} {Q} {R} second p = record {
+  law = λ y ts h fit. elim h [
+    | inl a ↦ by_first y (p.law y ts a fit)
+    | inr b ↦ elim (second y ts b fit) [ inl r ↦ by_first y r | inr r ↦ by_second y r ]
+  ];
+}
+  where
+    by_first : (y : A) → Printed P R y → Printed (Or P Q) R y
+    by_first y r = record { tokens = r.tokens; right = r.right; writable = r.writable; spelled = λ us e. inl (r.spelled us e) }
+
+    by_second : (y : A) → Printed Q R y → Printed (Or P Q) R y
+    by_second y r = record { tokens = r.tokens; right = r.right; writable = r.writable; spelled = λ us e. inr (r.spelled us e) }
+
+-- the tokens of a part are all
+pub whole : {A : Type 0} {P : A → List Token → Type 0} {show : A → List TokenKind} {R : A → List TokenKind → Type 0} → Prints P (By show) → ((y : A) → R y (show y)) → Prints P R
+whole {R = R} p right = record { law = λ y ts h fit. let r = p.law y ts h fit in record { tokens = r.tokens; right = subst (R y) (sym r.right) (right y); writable = r.writable; spelled = r.spelled } }

@@ -1,5 +1,5 @@
 -- Parts that many statements have are written so that they are read again.
-use Rattle.std.proofs.Common.{◌≡◌, ℕ, Bool, true, false, Option, Some, None, List, [], ◌∷◌, ◌++◌, refl, sym, ap, codes}
+use Rattle.std.proofs.Common.{true, false, None, List, [], refl, codes}
 use Rattle.sql_tokens.specs.declared.token.Token.{Token}
 use Rattle.sql_tokens.specs.declared.token.Sign.TheVariants as sign
 use Rattle.sql_tokens.specs.declared.token.TokenKind.{TokenKind}
@@ -8,14 +8,11 @@ use Rattle.dl_values.specs.declared.agg_kind.AggKind.TheVariants as agg
 use Rattle.sql_text.specs.declared.query.Literal.TheVariants as literal
 use Rattle.sql_text.specs.declared.table_def.ColumnType.TheVariants as type
 use Rattle.sql_text.specs.declared.table_def.DefaultText.TheVariants as default
-use Rattle.sql_grammar.specs.Lang.{Commas, Maybe, Then, Word, Means}
-use Rattle.sql_text.specs.Names.{Name, Count, String, Names, Literal_, Varchar, Type_, Agg, Nullable, Default, Comment}
-use Rattle.sql_print.specs.Writable.{AreWritable}
-use Rattle.sql_print.specs.Fit.{AreFit}
-use Rattle.sql_print.specs.Parts.{maybe, commas, keyword, name, names, literal_tokens, type_tokens, agg_word, agg_tokens, nullable_tokens, default_tokens}
-use Rattle.sql_print.proofs.Again.{kinds}
-use Rattle.sql_print.proofs.Prints.{Prints, Printed, By, is, part, last, or, list, optional, bind, split, none, single}
-use Rattle.sql_print.proofs.PrintsTokens.{word, sign_then, means, stands, word_prints, sign_prints, name_prints, count_prints, integer_prints, string_prints}
+use Rattle.sql_grammar.specs.Lang.{Commas, Then, Word, Means}
+use Rattle.sql_text.specs.Names.{Names, Literal_, Varchar, Type_, Agg, Nullable, Default, Comment}
+use Rattle.sql_print.specs.Parts.{maybe, commas, names, literal_tokens, type_tokens, agg_word, agg_tokens, nullable_tokens, default_tokens}
+use Rattle.sql_print.proofs.Prints.{Prints, By, is, part, last, or, list, optional, usual}
+use Rattle.sql_print.proofs.PrintsTokens.{word, sign_then, means, sign_prints, name_prints, count_prints, integer_prints, string_prints}
 
 -- parts, with commas between them
 pub commas_print : {A : Type 0} {P : A → List Token → Type 0} {show : A → List TokenKind} → Prints P (By show) → Prints (Commas P) (By (commas show))
@@ -56,12 +53,8 @@ unfolding nullable_tokens
 not_null = word (codes "NOT") (refl, refl) (means (codes "NULL") (refl, refl) false refl)
 
 pub nullable_prints : Prints Nullable (By nullable_tokens)
-unfolding Nullable nullable_tokens AreWritable
-nullable_prints = record { law = λ y ts h fit. go y }
-  where
-    go : (y : Bool) → Printed Nullable (By nullable_tokens) y
-    go true = record { tokens = []; right = refl; writable = tt; spelled = λ us e. record { value = None; front = []; back = us; parts = refl; first = refl; second = (none us e, refl) } }
-    go false = ?
+unfolding Nullable nullable_tokens
+nullable_prints = usual true refl (λ x ts h. h.second.1) not_null
 
 pub default_prints : Prints Default (By (maybe default_tokens))
 unfolding Default default_tokens

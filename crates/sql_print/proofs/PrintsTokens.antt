@@ -1,5 +1,6 @@
 -- Single tokens are written so that they are read again.
-use Rattle.std.proofs.Common.{◌≡◌, ◌<◌, arith, ℕ, ℤ, pos, negsuc, Bool, true, false, cond, Option, Some, None, List, [], ◌∷◌, length, refl, sym, ap, subst, ◌∙◌, ◌&&◌, ◌==◌, codes}
+use Rattle.std.proofs.Common.{◌≡◌, arith, ℕ, ℤ, pos, negsuc, Bool, true, false, cond, Option, Some, None, List, [], ◌∷◌, refl, sym, ap, subst, ◌∙◌, ◌==◌}
+use Rattle.std.proofs.lemmas.List.{append-nil}
 use Rattle.std.specs.List.{list_all}
 use Rattle.std.specs.Str.{IsUtf8, bytes_eq}
 use Rattle.std.proofs.lemmas.Bool.Decides.{nat_tests}
@@ -7,18 +8,17 @@ use Rattle.dl_values.specs.Read.{is_within}
 use Rattle.sql_tokens.specs.Bytes.{begins_word, in_word, in_quotes}
 use Rattle.sql_tokens.specs.declared.token.Token.{Token}
 use Rattle.sql_tokens.specs.declared.token.Sign.{Sign}
-use Rattle.sql_tokens.specs.declared.token.Sign.TheVariants as sign
 use Rattle.sql_tokens.specs.declared.token.TokenKind.{TokenKind}
 use Rattle.sql_tokens.specs.declared.token.TokenKind.TheVariants as kind
 use Rattle.sql_grammar.specs.Lang.{Tok, Is, Then}
-use Rattle.sql_grammar.specs.Marks.{lower, same_word, is_reserved, sign_code, kind_is, marked_word, marked_sign, whether, a_word, a_sign, name_in, a_name, integer_in, an_integer, count_of, count_in, a_count, text_in, a_text}
+use Rattle.sql_grammar.specs.Marks.{lower, is_reserved, sign_code, kind_is, marked_word, marked_sign, whether, a_word, a_sign, name_in, a_name, integer_in, an_integer, count_in, a_count, text_in, a_text}
 use Rattle.sql_text.specs.Names.{Name, Count, String}
-use Rattle.sql_print.specs.Writable.{IsWord, IsQuotable, IsWritable}
+use Rattle.sql_print.specs.Writable.{IsWord, IsQuotable, AreWritable}
 use Rattle.sql_print.specs.Fit.{IsFit}
 use Rattle.sql_print.specs.Parts.{name, count, string}
 use Rattle.sql_print.proofs.Runs.{left_true, right_true}
 use Rattle.sql_print.proofs.Utf8.{word_text}
-use Rattle.sql_print.proofs.Prints.{Prints, By, tok, is, part}
+use Rattle.sql_print.proofs.Prints.{Prints, Printed, By, tok, is, part, single}
 
 abbrev found : {A : Type 0} → A → Option A
 found x = Some x
@@ -126,3 +126,20 @@ text_fits kind.Stray x e fit = absurd cc
 pub string_prints : Prints String (By string)
 unfolding String
 string_prints = tok a_text kind.Text (λ t x e fit. text_fits t.kind x e fit) (λ t x e u k. ap text_in k)
+
+-- a word that stands for a value
+pub word_shown : {A : Type 0} {R : A → List TokenKind → Type 0} (w : List ℕ) → IsWord w → (x : A) → R x (kind.Word w ∷ []) → Printed (Then (Tok (a_word w)) (λ _. Is x)) R x
+unfolding AreWritable
+word_shown w good x r = record {
+  tokens = kind.Word w ∷ [];
+  right = r;
+  writable = (good, tt);
+  spelled = λ us e. let s = single (kind.Word w) us e in record {
+    value = tt;
+    front = us;
+    back = [];
+    parts = sym (append-nil us);
+    first = (s.0, s.1, ap (λ y. whether (kind_is (marked_word w) y)) s.2 ∙ ap whether (bytes_same (lower w)));
+    second = (refl, refl);
+  };
+}

@@ -1,6 +1,6 @@
 -- The tokens that a statement is written as (this project's own): each word in capitals, each name in backquotes, and of two ways
 -- to write one thing the shorter. No `;` is written.
-use Rattle.std.specs.Prelude.{ℕ, List}
+use Rattle.std.specs.Prelude.{List}
 use Rattle.sql_tokens.specs.declared.token.TokenKind.{TokenKind}
 use Rattle.sql_text.specs.declared.stmt.Stmt.{Stmt}
 use Rattle.sql_text.specs.declared.stmt.Stmt.TheVariants as stmt

@@ -1,5 +1,5 @@
 -- The tokens of ALTER TABLE. Comments are not written.
-use Rattle.std.specs.Prelude.{ℕ, Bool, List, [], ◌∷◌, ◌++◌, Option, codes}
+use Rattle.std.specs.Prelude.{ℕ, List, [], ◌∷◌, ◌++◌, codes}
 use Rattle.sql_tokens.specs.declared.token.TokenKind.{TokenKind}
 use Rattle.sql_tokens.specs.declared.token.TokenKind.TheVariants as kind
 use Rattle.sql_text.specs.declared.stmt.AlterKind.{AlterKind}

@@ -8,6 +8,7 @@ ghost use Rattle.sql_text.specs.Statements.{Spells};
 ghost use Rattle.sql_print.specs.Printing.{printed};
 ghost use Rattle.sql_print.specs.Shown.{shown};
 ghost use Rattle.sql_print.specs.Writable.{AreWritable};
+ghost use Rattle.sql_print.specs.Fit.{AreFit};
 
 /// The text of tokens has these tokens, and no others, wherever they stand in it.
 pub fn tokens_are_read_again()
@@ -23,4 +24,9 @@ pub fn written_tokens_are_text()
 pub fn statements_are_read_again()
     ensures writable { (s : Stmt) (text : List ℕ) → IsUtf8 text → Spells s text → AreWritable (shown s) }
     ensures again { (s : Stmt) (text : List ℕ) → IsUtf8 text → Spells s text → Spells s (printed (shown s)) }
+{}
+
+/// The tokens of a text can be written, but for what begins no token and for integers beyond 64 bits.
+pub fn tokens_of_texts_can_be_written()
+    ensures { (text : List ℕ) → IsUtf8 text → AreFit (tokens_of text) }
 {}

@@ -1,8 +1,10 @@
 // The text of a statement.
-ghost use Rattle.std.specs.Prelude.{◌≡◌, [], true, OnOk, IfOk, string_bytes};
+ghost use Rattle.std.specs.Prelude.{◌≡◌, ℕ, List, OnOk, IfOk, string_bytes};
 ghost use Rattle.sql_print.specs.Steps.{put};
 ghost use Rattle.sql_print.specs.Shown.{shown};
 ghost use Rattle.sql_print.specs.TextOf.{IsTextOf};
+ghost use Rattle.sql_text.specs.Statements.{Spells};
+ghost use Rattle.std.specs.Str.{IsUtf8};
 
 use crate::TokenWriter;
 use crate::alter::{show_add_partition, show_add_rollup, show_cancel, show_clauses};
@@ -51,9 +53,10 @@ fn show_stmt(writer: &mut TokenWriter, stmt: &Stmt) -> Result<(), NoMemory>
     }
 }
 
-/// The text of a statement, without `;`.
+/// The text of a statement, without `;`. Where some text has the statement, this one has it again.
 pub fn print_stmt(alloc: Global, stmt: &Stmt) -> Result<String, NoMemory>
     ensures text { IfOk result (λ s. IsTextOf (shown stmt.now) (string_bytes s)) }
+    ensures again { (text : List ℕ) → IsUtf8 text → Spells stmt.now text → IfOk result (λ s. Spells stmt.now (string_bytes s)) }
 {
     let mut writer = TokenWriter::new(alloc);
     show_stmt(&mut writer, stmt)?;
