@@ -1,5 +1,5 @@
 -- CREATE and DROP are read by their readers.
-use Rattle.std.proofs.Common.{◌<◌, ℕ, true, false, List, [], ◌∷◌, ◌++◌, length, Some, None, is_some, Result, codes, refl}
+use Rattle.std.proofs.Common.{◌<◌, true, false, List, [], ◌∷◌, length, Some, None, is_some, Result, codes, refl}
 use Rattle.std.specs.Prelude.{IfOk}
 use Rattle.schema_models.specs.declared.model.Model.TheVariants as model
 use Rattle.sql_tokens.specs.declared.token.Token.{Token}

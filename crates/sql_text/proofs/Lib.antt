@@ -6,3 +6,4 @@ pub mod AlterReads
 pub mod ShowReads
 pub mod StatementReads
 pub mod Parsing
+pub mod FaultLaws

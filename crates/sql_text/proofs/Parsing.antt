@@ -1,5 +1,5 @@
 -- What reading all of the tokens of a text tells of the text.
-use Rattle.std.proofs.Common.{◌≡◌, ◌+◌, ◌-◌, ◌≤◌, ℕ, zero, suc, nat_eq, false, rules, List, [], ◌∷◌, ◌++◌, length, take, drop, Result, Ok, Err, refl, sym, ap, subst, ◌∙◌, arith, length-append}
+use Rattle.std.proofs.Common.{◌≡◌, ◌+◌, ◌-◌, ◌≤◌, ℕ, zero, suc, nat_eq, false, rules, List, [], ◌++◌, length, take, drop, Ok, Err, sym, ap, subst, ◌∙◌, arith, length-append}
 use Rattle.std.proofs.lemmas.List.{append-nil}
 use Rattle.std.proofs.Math.Seq.{drop-append_seam, take-append_seam}
 use Rattle.sql_tokens.specs.declared.token.Token.{Token}
@@ -11,7 +11,7 @@ use Rattle.sql_grammar.specs.declared.stop.Stop.TheVariants as stop
 use Rattle.sql_grammar.specs.Reading.{Fails}
 use Rattle.sql_grammar.specs.Lang.{Begins, IsFaultAt}
 use Rattle.sql_grammar.proofs.Whole.{Fault, whole_found, whole_only, one_value, whole_fault, begins_all, begins_not_all}
-use Rattle.sql_text.specs.Statements.{Statement, Spells}
+use Rattle.sql_text.specs.Statements.{Statement}
 use Rattle.sql_text.specs.Faults.{Tells, IsKind, place, IsFault}
 use Rattle.sql_text.specs.ReadStatements.{whole_at}
 use Rattle.sql_text.proofs.StatementReads.{statement_reads}
@@ -42,7 +42,7 @@ tells tokens (suc n) e = let h : nat_eq (suc n) 0 ≡ false = search rules in rw
 
 -- ---- the fault
 
-fault_at : (tokens : List Token) (n : ℕ) → whole_at tokens ≡ Err n → Fault Statement tokens n
+pub fault_at : (tokens : List Token) (n : ℕ) → whole_at tokens ≡ Err n → Fault Statement tokens n
 unfolding whole_at
 fault_at tokens n e = whole_fault statement_reads tokens n e
 

@@ -19,7 +19,7 @@ use Rattle.sql_text.specs.declared.query.Check.TheVariants as check
 use Rattle.sql_text.specs.declared.query.CompareOp.TheVariants as op
 use Rattle.sql_grammar.specs.declared.stop.Stop.{Stop}
 use Rattle.sql_grammar.specs.Marks.{Mark, marked_word, marked_sign, marked_name, marked_integer, lower, is_reserved, kind_is, whether, name_in, a_word, mark_is, matches}
-use Rattle.sql_grammar.specs.Lang.{Tok, Is, Then, Or, Maybe, Means, Sign_, Word, or_else}
+use Rattle.sql_grammar.specs.Lang.{Tok, Is, Then, Or, Means, Sign_, Word, or_else}
 use Rattle.sql_grammar.specs.Reading.{Gives, word_at}
 use Rattle.sql_grammar.proofs.Laws.{Reads, reads_wide, tok_reads, is_reads, is_reads_wide, next_reads, either_reads, maybe_reads, reads_along, leaves_less}
 use Rattle.sql_grammar.proofs.Singles.{whether_some, word_reads, sign_reads, means_reads, stands_reads, name_reads, integer_reads, count_reads, list_reads, commas_read}

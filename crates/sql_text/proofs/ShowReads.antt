@@ -1,5 +1,5 @@
 -- SHOW, DESC and ADMIN are read by their readers.
-use Rattle.std.proofs.Common.{true, false, List, [], ◌∷◌, codes, refl}
+use Rattle.std.proofs.Common.{false, List, [], ◌∷◌, codes, refl}
 use Rattle.sql_tokens.specs.declared.token.Sign.TheVariants as sign
 use Rattle.sql_text.specs.declared.stmt.Stmt.TheVariants as stmt
 use Rattle.sql_text.specs.declared.stmt.AdminTask.TheVariants as task

@@ -1,8 +1,6 @@
 -- Statements are read by their reader, and so is the statement of a text.
-use Rattle.std.proofs.Common.{true, false, List, [], ◌∷◌, ◌++◌, codes, refl}
-use Rattle.sql_tokens.specs.declared.token.Token.{Token}
+use Rattle.std.proofs.Common.{false, List, ◌∷◌, ◌++◌, codes, refl}
 use Rattle.sql_tokens.specs.declared.token.Sign.TheVariants as sign
-use Rattle.sql_text.specs.declared.stmt.Stmt.{Stmt}
 use Rattle.sql_text.specs.declared.stmt.Stmt.TheVariants as stmt
 use Rattle.sql_grammar.specs.Marks.{Mark, marked_word, marked_sign}
 use Rattle.sql_grammar.specs.Lang.{Is, Then}

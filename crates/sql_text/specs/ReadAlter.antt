@@ -11,7 +11,7 @@ use Rattle.sql_text.specs.declared.clause.AlteredColumn.{AlteredColumn}
 use Rattle.sql_text.specs.declared.clause.ColumnPlace.{ColumnPlace}
 use Rattle.sql_text.specs.declared.clause.ColumnPlace.TheVariants as place
 use Rattle.sql_grammar.specs.Marks.{Mark, marked_word, marked_sign, matches}
-use Rattle.sql_grammar.specs.Reading.{Reader, next, is, either, maybe, one, list_from, word_at, sign_at, name_at, means_at, ◌>>=◌, ◌>>◌}
+use Rattle.sql_grammar.specs.Reading.{Reader, is, either, maybe, one, list_from, word_at, sign_at, name_at, means_at, ◌>>=◌, ◌>>◌}
 use Rattle.sql_text.specs.ReadNames.{word_or, names_at, type_at, maybe_agg_at, nullable_at, default_at, comment_at}
 use Rattle.sql_text.specs.ReadCreate.{part_at}
 

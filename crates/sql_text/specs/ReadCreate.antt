@@ -16,7 +16,7 @@ use Rattle.sql_text.specs.declared.table_def.Property.{Property}
 use Rattle.sql_text.specs.declared.table_def.ColumnText.{ColumnText}
 use Rattle.sql_grammar.specs.Marks.{Mark, marked_word, matches}
 use Rattle.sql_grammar.specs.Lang.{or_else}
-use Rattle.sql_grammar.specs.Reading.{Reader, next, is, either, maybe, one, word_at, sign_at, name_at, count_at, text_at, means_at, commas_at, ◌>>=◌, ◌>>◌}
+use Rattle.sql_grammar.specs.Reading.{Reader, is, either, maybe, one, word_at, sign_at, name_at, count_at, text_at, means_at, commas_at, ◌>>=◌, ◌>>◌}
 use Rattle.sql_text.specs.ReadNames.{word_or, names_at, literal_at, type_at, maybe_agg_at, nullable_at, default_at, comment_at}
 
 unfoldable pub if_not_exists_at : Reader Bool

@@ -1,5 +1,5 @@
 -- Reading SHOW, DESC and ADMIN.
-use Rattle.std.specs.Prelude.{ℕ, List, [], ◌∷◌, codes}
+use Rattle.std.specs.Prelude.{codes}
 use Rattle.sql_tokens.specs.declared.token.Sign.TheVariants as sign
 use Rattle.sql_text.specs.declared.stmt.Stmt.{Stmt}
 use Rattle.sql_text.specs.declared.stmt.Stmt.TheVariants as stmt
@@ -8,7 +8,7 @@ use Rattle.sql_text.specs.declared.stmt.AdminTask.TheVariants as task
 use Rattle.sql_text.specs.declared.stmt.TransactionKey.{TransactionKey}
 use Rattle.sql_text.specs.declared.stmt.TransactionKey.TheVariants as key
 use Rattle.sql_grammar.specs.Marks.{marked_word}
-use Rattle.sql_grammar.specs.Reading.{Reader, next, is, either, one, word_at, sign_at, name_at, count_at, text_at, means_at, ◌>>=◌, ◌>>◌}
+use Rattle.sql_grammar.specs.Reading.{Reader, is, either, one, word_at, sign_at, name_at, count_at, text_at, means_at, ◌>>=◌, ◌>>◌}
 use Rattle.sql_text.specs.ReadNames.{word_or}
 use Rattle.sql_text.specs.ReadAlter.{kind_at}
 

@@ -1,11 +1,11 @@
 -- Reading statements.
-use Rattle.std.specs.Prelude.{ℕ, List, [], ◌∷◌, Result, codes}
+use Rattle.std.specs.Prelude.{ℕ, List, Result, codes}
 use Rattle.sql_tokens.specs.declared.token.Token.{Token}
 use Rattle.sql_tokens.specs.declared.token.Sign.TheVariants as sign
 use Rattle.sql_text.specs.declared.stmt.Stmt.{Stmt}
 use Rattle.sql_text.specs.declared.stmt.Stmt.TheVariants as stmt
 use Rattle.sql_grammar.specs.Marks.{marked_word, marked_sign}
-use Rattle.sql_grammar.specs.Reading.{Reader, next, is, either, maybe, one, sign_at, to_end, ◌>>=◌, ◌>>◌}
+use Rattle.sql_grammar.specs.Reading.{Reader, is, either, maybe, one, sign_at, to_end, ◌>>=◌, ◌>>◌}
 use Rattle.sql_text.specs.ReadCreate.{create_at, drop_at}
 use Rattle.sql_text.specs.ReadAlter.{alter_at, cancel_at}
 use Rattle.sql_text.specs.ReadShow.{show_at, describe_at, admin_at}

@@ -7,6 +7,7 @@ mod clauses;
 mod create;
 mod definition;
 mod key_clause;
+pub mod laws;
 mod names;
 mod parse;
 mod part;

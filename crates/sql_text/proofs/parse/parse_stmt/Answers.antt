@@ -1,5 +1,4 @@
-use Rattle.std.proofs.Common.{◌≡◌, ◌∙◌, ℕ, sym, ap, subst, List, ◌⊎◌, inl, inr, Result, Ok, Err}
-use Rattle.sql_tokens.specs.declared.token.Token.{Token}
+use Rattle.std.proofs.Common.{◌≡◌, ◌∙◌, sym, ap, subst, inl, Result, Ok, Err}
 use Rattle.sql_text.specs.declared.stmt.Stmt.{Stmt}
 use Rattle.sql_text.specs.declared.sql_error.SqlFault.{SqlFault}
 use Rattle.sql_text.specs.declared.sql_error.SqlError.{SqlError}
