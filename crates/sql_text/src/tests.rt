@@ -249,32 +249,46 @@ fn a_reserved_word_is_a_name_in_backquotes_alone(rt: HostRuntime) -> Result<(), 
     Ok(())
 }
 
+fn statement(alloc: Global, text: &str) -> Result<Stmt, Fail> {
+    match parse_stmt(alloc, text) {
+        Ok(stmt) => Ok(stmt),
+        Err(_) => Err("no statement".into()),
+    }
+}
+
 #[test]
 fn the_parts_of_a_query_stand_in_their_places(rt: HostRuntime) -> Result<(), Fail> {
     let text =
         "SELECT k, COUNT(*), min(v) FROM t WHERE a <= -1 AND b IS NOT NULL GROUP BY g ORDER BY 2 DESC, k LIMIT 7";
-    let Ok(Stmt::Select(query)) = parse_stmt(rt.alloc(), text) else {
+    let stmt = statement(rt.alloc(), text)?;
+    let Stmt::Select(query) = &stmt else {
         return Err("no query".into());
     };
     assert_eq!(rt; query.table.bytes(), b"t".as_slice());
     assert!(rt; !query.star);
+    let items = query.items.as_slice();
     assert!(rt;
         matches!(
-            query.items.as_slice(),
+            items,
             [Item::Column(_), Item::CountAll, Item::Agg(AggFn::Min, _)]
         )
     );
-    assert_eq!(rt; query.filters.len(), 2);
+    let [first, second] = query.filters.as_slice() else {
+        return Err("not two tests".into());
+    };
     assert!(rt;
         matches!(
-            query.filters.as_slice()[0].check,
+            &first.check,
             Check::Compare(CompareOp::Le, Literal::Int(-1))
         )
     );
-    assert!(rt; matches!(query.filters.as_slice()[1].check, Check::IsNotNull));
+    assert!(rt; matches!(&second.check, Check::IsNotNull));
     assert_eq!(rt; query.group.as_slice()[0].bytes(), b"g".as_slice());
-    assert!(rt; query.order.as_slice()[0].descending && !query.order.as_slice()[1].descending);
-    assert!(rt; matches!(query.order.as_slice()[0].by, OrderBy::Position(2)));
+    let [position, item] = query.order.as_slice() else {
+        return Err("not two keys".into());
+    };
+    assert!(rt; position.descending && !item.descending);
+    assert!(rt; matches!(&position.by, OrderBy::Position(2)));
     assert_eq!(rt; query.limit, Some(7));
     Ok(())
 }
@@ -283,35 +297,30 @@ fn the_parts_of_a_query_stand_in_their_places(rt: HostRuntime) -> Result<(), Fai
 fn the_parts_of_a_table_stand_in_their_places(rt: HostRuntime) -> Result<(), Fail> {
     let text =
         "CREATE TABLE IF NOT EXISTS t (k VARCHAR(9) NOT NULL, v BIGINT SUM DEFAULT NULL) AGGREGATE KEY(k) PARTITION BY RANGE(k) (PARTITION p VALUES LESS THAN MAXVALUE) DISTRIBUTED BY HASH(k) BUCKETS 3 PROPERTIES('a'='b')";
-    let Ok(
-        Stmt::CreateTable {
-            if_not_exists: true,
-            name,
-            def,
-        },
-    ) = parse_stmt(rt.alloc(), text)
+    let stmt = statement(rt.alloc(), text)?;
+    let Stmt::CreateTable {
+        if_not_exists,
+        name,
+        def,
+    } = &stmt
     else {
         return Err("no table".into());
     };
+    assert!(rt; *if_not_exists);
     assert_eq!(rt; name.bytes(), b"t".as_slice());
     let [k, v] = def.columns.as_slice() else {
         return Err("not two columns".into());
     };
     assert!(rt;
-        matches!(k.kind, ColumnType::Varchar(9))
-            && !k.nullable
-            && k.agg.is_none()
-            && k.default.is_none()
+        k.kind == ColumnType::Varchar(9) && !k.nullable && k.agg == None && k.default.is_none()
     );
-    assert!(rt;
-        matches!(v.agg, Some(AggKind::Sum))
-            && v.nullable
-            && matches!(v.default, Some(DefaultText::Null))
-    );
-    assert!(rt; matches!(def.key, Some(key) if key.model == Model::Aggregate));
-    assert!(rt;
-        matches!(def.ranges, Some(ranges) if matches!(ranges.parts.as_slice()[0].bounds, PartBounds::Less(None)))
-    );
+    assert!(rt; v.agg == Some(AggKind::Sum) && v.nullable);
+    assert!(rt; matches!(&v.default, Some(DefaultText::Null)));
+    let (Some(key), Some(ranges)) = (&def.key, &def.ranges) else {
+        return Err("no key or no partitions".into());
+    };
+    assert!(rt; key.model == Model::Aggregate);
+    assert!(rt; matches!(&ranges.parts.as_slice()[0].bounds, PartBounds::Less(None)));
     assert_eq!(rt; def.hash.len(), 1);
     assert_eq!(rt; def.buckets, Some(3));
     assert_eq!(rt; def.properties.as_slice()[0].value.bytes(), b"b".as_slice());
@@ -321,43 +330,42 @@ fn the_parts_of_a_table_stand_in_their_places(rt: HostRuntime) -> Result<(), Fai
 #[test]
 fn the_other_statements_hold_what_is_written(rt: HostRuntime) -> Result<(), Fail> {
     let alloc = rt.alloc();
-    let altered = parse_stmt(
+    let altered = statement(
         alloc,
         "ALTER TABLE t ADD COLUMN c INT KEY FIRST, DROP COLUMN d",
-    );
-    let Ok(Stmt::Alter { clauses, .. }) = altered else {
+    )?;
+    let Stmt::Alter { clauses, .. } = &altered else {
         return Err("no clauses".into());
     };
-    assert!(rt;
-        matches!(clauses.as_slice(), [Clause::Add(column, Some(ColumnPlace::First)), Clause::Drop(_)] if column.key)
-    );
+    let [
+        Clause::Add(column, Some(ColumnPlace::First)),
+        Clause::Drop(_),
+    ] = clauses.as_slice()
+    else {
+        return Err("other clauses".into());
+    };
+    assert!(rt; column.key);
+    let shown = statement(alloc, "SHOW ALTER TABLE ROLLUP")?;
     assert!(rt;
         matches!(
-            parse_stmt(alloc, "SHOW ALTER TABLE ROLLUP"),
-            Ok(Stmt::ShowAlter {
+            &shown,
+            Stmt::ShowAlter {
                 kind: AlterKind::Rollup
-            })
+            }
         )
     );
+    let asked = statement(alloc, "SHOW TRANSACTION WHERE ID = 5")?;
     assert!(rt;
         matches!(
-            parse_stmt(alloc, "SHOW TRANSACTION WHERE ID = 5"),
-            Ok(Stmt::ShowTransaction {
+            &asked,
+            Stmt::ShowTransaction {
                 by: TransactionKey::Id(5)
-            })
+            }
         )
     );
-    assert!(rt;
-        matches!(
-            parse_stmt(alloc, "ADMIN SWEEP"),
-            Ok(Stmt::Admin(AdminTask::Sweep))
-        )
-    );
-    assert!(rt;
-        matches!(
-            parse_stmt(alloc, "ADMIN AUDIT DROP 3"),
-            Ok(Stmt::AuditDrop { place: 3 })
-        )
-    );
+    let task = statement(alloc, "ADMIN SWEEP")?;
+    assert!(rt; matches!(&task, Stmt::Admin(AdminTask::Sweep)));
+    let dropped = statement(alloc, "ADMIN AUDIT DROP 3")?;
+    assert!(rt; matches!(&dropped, Stmt::AuditDrop { place: 3 }));
     Ok(())
 }
