@@ -3,3 +3,4 @@ pub mod Laws
 pub mod Loops
 pub mod Whole
 pub mod Singles
+pub mod Places

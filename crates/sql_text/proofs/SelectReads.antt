@@ -19,7 +19,7 @@ use Rattle.sql_text.specs.declared.query.Check.TheVariants as check
 use Rattle.sql_text.specs.declared.query.CompareOp.TheVariants as op
 use Rattle.sql_grammar.specs.declared.stop.Stop.{Stop}
 use Rattle.sql_grammar.specs.Marks.{Mark, marked_word, marked_sign, marked_name, marked_integer, lower, is_reserved, kind_is, whether, name_in, a_word, mark_is, matches}
-use Rattle.sql_grammar.specs.Lang.{Tok, Is, Then, Or, Maybe, Means, Sign_, Word, or_else}
+use Rattle.sql_grammar.specs.Lang.{Tok, Is, Then, Or, Means, Sign_, Word, or_else}
 use Rattle.sql_grammar.specs.Reading.{Gives, word_at}
 use Rattle.sql_grammar.proofs.Laws.{Reads, reads_wide, tok_reads, is_reads, is_reads_wide, next_reads, either_reads, maybe_reads, reads_along, leaves_less}
 use Rattle.sql_grammar.proofs.Singles.{whether_some, word_reads, sign_reads, means_reads, stands_reads, name_reads, integer_reads, count_reads, list_reads, commas_read}
@@ -162,12 +162,12 @@ function_spelled v f t e h =
     elim (cases (is_word (lower v) (codes "SUM")) (is_word (lower v) (codes "MIN")) (is_word (lower v) (codes "MAX")) (is_word (lower v) (codes "COUNT")) f h) [
       | inl a ↦ inl (means_spelled (codes "SUM") v function.Sum f t e a.0 a.1)
       | inr r ↦ elim r [
-          | inl b ↦ inr (inl (means_spelled (codes "MIN") v function.Min f t e b.0 b.1))
-          | inr r ↦ elim r [
-              | inl c ↦ inr (inr (inl (means_spelled (codes "MAX") v function.Max f t e c.0 c.1)))
-              | inr d ↦ inr (inr (inr (means_spelled (codes "COUNT") v function.Count f t e d.0 d.1)))
-            ]
+        | inl b ↦ inr (inl (means_spelled (codes "MIN") v function.Min f t e b.0 b.1))
+        | inr r ↦ elim r [
+          | inl c ↦ inr (inr (inl (means_spelled (codes "MAX") v function.Max f t e c.0 c.1)))
+          | inr d ↦ inr (inr (inr (means_spelled (codes "COUNT") v function.Count f t e d.0 d.1)))
         ]
+      ]
     ]
 
 head_is_function : (v : TokenKind) (n : List ℕ) (f : AggFn) (t : Token) → t.kind ≡ v → head_in v ≡ Some (n, Some f) → Function f (t ∷ [])
@@ -187,12 +187,12 @@ count_is front s =
     elim s [
       | inl a ↦ absurd (let k = a.second.1 in cc)
       | inr r ↦ elim r [
-          | inl b ↦ absurd (let k = b.second.1 in cc)
-          | inr r ↦ elim r [
-              | inl c ↦ absurd (let k = c.second.1 in cc)
-              | inr d ↦ whole d
-            ]
+        | inl b ↦ absurd (let k = b.second.1 in cc)
+        | inr r ↦ elim r [
+          | inl c ↦ absurd (let k = c.second.1 in cc)
+          | inr d ↦ whole d
         ]
+      ]
     ]
   where
     whole : Means (codes "COUNT") function.Count function.Count front → Word (codes "COUNT") tt front
@@ -221,12 +221,12 @@ function_is_head f front s =
     elim s [
       | inl a ↦ means_is_head (codes "SUM") function.Sum f front refl refl a
       | inr r ↦ elim r [
-          | inl b ↦ means_is_head (codes "MIN") function.Min f front refl refl b
-          | inr r ↦ elim r [
-              | inl c ↦ means_is_head (codes "MAX") function.Max f front refl refl c
-              | inr d ↦ means_is_head (codes "COUNT") function.Count f front refl refl d
-            ]
+        | inl b ↦ means_is_head (codes "MIN") function.Min f front refl refl b
+        | inr r ↦ elim r [
+          | inl c ↦ means_is_head (codes "MAX") function.Max f front refl refl c
+          | inr d ↦ means_is_head (codes "COUNT") function.Count f front refl refl d
         ]
+      ]
     ]
 
 column_inside : (f : AggFn) (x : Item) (ts : List Token) → ColumnIn f x ts → Inside f x ts

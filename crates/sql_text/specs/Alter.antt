@@ -1,6 +1,6 @@
 -- ALTER TABLE (Apache Doris documentation, "ALTER TABLE COLUMN", "ALTER TABLE PARTITION", "ALTER TABLE ROLLUP",
 -- "CANCEL ALTER TABLE").
-use Rattle.std.specs.Prelude.{ℕ, List, is_some, codes}
+use Rattle.std.specs.Prelude.{ℕ, Bool, List, is_some, codes}
 use Rattle.sql_text.specs.declared.stmt.Stmt.{Stmt}
 use Rattle.sql_text.specs.declared.stmt.Stmt.TheVariants as stmt
 use Rattle.sql_text.specs.declared.stmt.AlterKind.{AlterKind}
@@ -14,17 +14,23 @@ use Rattle.sql_grammar.specs.Lang.{Lang, Is, Or, Maybe, Commas, Word, Means, ◌
 use Rattle.sql_text.specs.Names.{Name, Names, Type_, Agg, Nullable, Default, Comment}
 use Rattle.sql_text.specs.Create.{Part_}
 
+-- [KEY]
+unfoldable pub IsKey : Lang Bool
+IsKey = do
+  found ← Maybe (Word (codes "KEY"))
+  Is (is_some found)
+
 -- acol := name type [KEY] [agg] [NULL | NOT NULL] [DEFAULT (literal | NULL)] [COMMENT string]
 unfoldable pub Altered : Lang AlteredColumn
 Altered = do
   n ← Name
   t ← Type_
-  k ← Maybe (Word (codes "KEY"))
+  k ← IsKey
   a ← Maybe Agg
   u ← Nullable
   d ← Default
   Comment
-  Is (record { name = n; kind = t; key = is_some k; agg = a; nullable = u; default = d })
+  Is (record { name = n; kind = t; key = k; agg = a; nullable = u; default = d })
 
 -- FIRST | AFTER name
 unfoldable pub Place : Lang ColumnPlace

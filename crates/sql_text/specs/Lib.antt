@@ -7,3 +7,7 @@ pub mod Statements
 pub mod Faults
 pub mod ReadNames
 pub mod ReadSelect
+pub mod ReadCreate
+pub mod ReadAlter
+pub mod ReadShow
+pub mod ReadStatements

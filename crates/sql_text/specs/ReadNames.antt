@@ -1,5 +1,5 @@
 -- Reading names, literals, types and defaults.
-use Rattle.std.specs.Prelude.{ℕ, Bool, true, false, List, [], ◌∷◌, Option, Some, None, codes}
+use Rattle.std.specs.Prelude.{ℕ, Bool, true, false, List, [], ◌∷◌, Option, codes}
 use Rattle.dl_values.specs.declared.agg_kind.AggKind.{AggKind}
 use Rattle.dl_values.specs.declared.agg_kind.AggKind.TheVariants as agg
 use Rattle.sql_tokens.specs.declared.token.Sign.TheVariants as sign
@@ -11,7 +11,7 @@ use Rattle.sql_text.specs.declared.table_def.DefaultText.{DefaultText}
 use Rattle.sql_text.specs.declared.table_def.DefaultText.TheVariants as default
 use Rattle.sql_grammar.specs.Marks.{Mark, marked_word, marked_integer, matches}
 use Rattle.sql_grammar.specs.Lang.{or_else}
-use Rattle.sql_grammar.specs.Reading.{Reader, next, is, either, maybe, one, word_at, sign_at, name_at, integer_at, count_at, text_at, means_at, commas_at, ◌>>=◌, ◌>>◌}
+use Rattle.sql_grammar.specs.Reading.{Reader, is, either, maybe, one, word_at, sign_at, name_at, integer_at, count_at, text_at, means_at, commas_at, ◌>>=◌, ◌>>◌}
 
 -- the word with its value, or else another reader
 abbrev pub word_or : {A : Type 0} → List ℕ → A → Reader A → Reader A

@@ -21,7 +21,7 @@ use Rattle.sql_text.specs.declared.query.OrderBy.{OrderBy}
 use Rattle.sql_text.specs.declared.query.OrderBy.TheVariants as by
 use Rattle.sql_grammar.specs.Marks.{Mark, marked_word, marked_sign, marked_name, matches, is_reserved, lower}
 use Rattle.sql_grammar.specs.Lang.{or_else}
-use Rattle.sql_grammar.specs.Reading.{Reader, next, is, either, maybe, tok, one, list_of, word_at, sign_at, name_at, integer_at, count_at, means_at, stands_at, commas_at, ◌>>=◌, ◌>>◌}
+use Rattle.sql_grammar.specs.Reading.{Reader, is, either, maybe, tok, one, list_of, word_at, sign_at, name_at, integer_at, count_at, means_at, stands_at, commas_at, ◌>>=◌, ◌>>◌}
 use Rattle.sql_text.specs.ReadNames.{word_or, literal_at}
 
 -- the sign with its value, or else another reader

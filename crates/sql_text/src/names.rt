@@ -141,10 +141,13 @@ pub fn comment(tokens: &[Token]) -> Result<&[Token], Stop>
         return Ok(tokens);
     };
     match rest {
-        [Token {
-            kind: TokenKind::Text(_),
-            ..
-        }, behind @ ..] => Ok(behind),
+        [
+            Token {
+                kind: TokenKind::Text(_),
+                ..
+            },
+            behind @ ..,
+        ] => Ok(behind),
         _ => Err(Stop::Left(rest.len())),
     }
 }

@@ -8,7 +8,8 @@ use crate::names::literal;
 use crate::query::{AggFn, Check, CompareOp, Filter, Item, OrderBy, OrderKey, Query};
 use dl_values::Name;
 use sql_grammar::{
-    Piece, Separator, Stop, after_sign, after_word, count, heads_name, integer, is_reserved, list, name, same_word, sign, word,
+    Piece, Separator, Stop, after_sign, after_word, count, heads_name, integer, is_reserved, list,
+    name, same_word, sign, word,
 };
 use sql_tokens::{Sign, Token, TokenKind};
 use sqlite_items::Items;
