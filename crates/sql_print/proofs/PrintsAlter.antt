@@ -6,8 +6,8 @@ use Rattle.sql_text.specs.declared.stmt.Stmt.TheVariants as stmt
 use Rattle.sql_text.specs.declared.stmt.AlterKind.TheVariants as alter
 use Rattle.sql_text.specs.declared.clause.Clause.TheVariants as clause
 use Rattle.sql_text.specs.declared.clause.ColumnPlace.TheVariants as place
-use Rattle.sql_text.specs.Alter.{Altered, Place, AddedColumn, DropColumn, ModifyColumn, OrderColumns, Clause_, AddPart, AddRollup, Clauses, Alter, Kind, Cancel}
-use Rattle.sql_print.specs.Parts.{maybe}
+use Rattle.sql_text.specs.Alter.{IsKey, Altered, Place, AddedColumn, DropColumn, ModifyColumn, OrderColumns, Clause_, AddPart, AddRollup, Clauses, Alter, Kind, Cancel}
+use Rattle.sql_print.specs.Parts.{maybe, when, keyword}
 use Rattle.sql_print.specs.ShownAlter.{altered_tokens, place_tokens, clause_tokens, alter_tokens, add_partition_tokens, rollup_tokens, add_rollup_tokens, clauses_tokens, kind_tokens, cancel_tokens}
 use Rattle.sql_print.specs.Shown.{shown}
 use Rattle.sql_print.proofs.Prints.{Prints, By, is, part, last, or, optional, flag, skip}
@@ -15,16 +15,20 @@ use Rattle.sql_print.proofs.PrintsTokens.{word, means, word_prints, name_prints}
 use Rattle.sql_print.proofs.PrintsParts.{commas_print, names_prints, type_prints, agg_prints, nullable_prints, default_prints, no_comment}
 use Rattle.sql_print.proofs.PrintsCreate.{part_prints}
 
+is_key_prints : Prints IsKey (By (λ k. when k (keyword (codes "KEY"))))
+unfolding IsKey
+is_key_prints = last is_some (flag (word_prints (codes "KEY") (refl, refl))) (λ o. refl)
+
 altered_prints : Prints Altered (By altered_tokens)
 unfolding Altered altered_tokens
 altered_prints =
     part name_prints (λ n.
     part type_prints (λ t.
-    part (flag (word_prints (codes "KEY") (refl, refl))) (λ k.
+    part is_key_prints (λ k.
     part (optional agg_prints) (λ a.
     part nullable_prints (λ u.
     part default_prints (λ d.
-    skip tt no_comment (is _ (record { name = n; kind = t; key = is_some k; agg = a; nullable = u; default = d }) (rw (append-nil (maybe _ d)) refl))))))))
+    skip tt no_comment (is _ (record { name = n; kind = t; key = k; agg = a; nullable = u; default = d }) (rw (append-nil (maybe _ d)) refl))))))))
 
 place_prints : Prints Place (By place_tokens)
 unfolding Place place_tokens

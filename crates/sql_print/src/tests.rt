@@ -1,4 +1,6 @@
 // Tokens as a table: their text, which is read again as the same tokens.
+mod statements;
+
 use crate::print_tokens;
 use dl_values::{Name, NoMemory, Text};
 use sql_tokens::{Sign, TokenKind, tokens};
