@@ -21,6 +21,7 @@ pub fn show_names(writer: &mut TokenWriter, columns: &[Name]) -> Result<(), NoMe
     Ok(())
 }
 
+/// Adds a literal.
 #[tactic(auto, using(crate::proofs::Puts::put_put, crate::proofs::Puts::put_nil), unfolding(crate::specs::Parts::literal_tokens))]
 pub fn show_literal(writer: &mut TokenWriter, literal: &Literal) -> Result<(), NoMemory>
     ensures { OnOk result (writer.new ≡ put writer.old (literal_tokens literal.now)) }
@@ -43,6 +44,7 @@ fn show_varchar(writer: &mut TokenWriter, most: u64) -> Result<(), NoMemory>
     Ok(())
 }
 
+/// Adds the type of a column.
 #[tactic(auto, using(crate::proofs::Puts::put_put, crate::proofs::Puts::put_nil), unfolding(crate::specs::Parts::type_tokens))]
 pub fn show_type(writer: &mut TokenWriter, column_type: ColumnType) -> Result<(), NoMemory>
     ensures { OnOk result (writer.new ≡ put writer.old (type_tokens column_type)) }
