@@ -30,16 +30,16 @@ compared (t ∷ front) rest (u ∷ other) after e =
     elim (compared front rest other after k) [
       | inl s ↦ inl (ap (λ (x : Token). x ∷ front) h ∙ ap (λ (l : List Token). u ∷ l) s.0, s.1)
       | inr r ↦ elim r [
-          | inl a ↦ inr (inl (record { next = a.next; more = a.more; front_is = ap (λ (x : Token). x ∷ other) (sym h) ∙ ap (λ (l : List Token). t ∷ l) a.front_is; rest_is = a.rest_is }))
-          | inr b ↦ inr (inr (record { next = b.next; more = b.more; front_is = ap (λ (x : Token). x ∷ front) h ∙ ap (λ (l : List Token). u ∷ l) b.front_is; rest_is = b.rest_is }))
-        ]
+        | inl a ↦ inr (inl (record { next = a.next; more = a.more; front_is = ap (λ (x : Token). x ∷ other) (sym h) ∙ ap (λ (l : List Token). t ∷ l) a.front_is; rest_is = a.rest_is }))
+        | inr b ↦ inr (inr (record { next = b.next; more = b.more; front_is = ap (λ (x : Token). x ∷ front) h ∙ ap (λ (l : List Token). u ∷ l) b.front_is; rest_is = b.rest_is }))
+      ]
     ]
 
 -- nothing begins with a fault's front and the head of its rest
 not_longer : {A : Type 0} {P : A → List Token → Type 0} {tokens front rest other after : List Token} → IsFaultAt P tokens front rest → IsFaultAt P tokens other after → Longer front rest other after → ⊥
 not_longer {P = P} {front = front} f g a =
     f.dead g.begins.value (a.next ∷ (a.more ++ g.begins.more)) (subst (λ (l : List Token). SameHead l (a.next ∷ (a.more ++ g.begins.more))) (sym a.rest_is) refl)
-      (subst (P g.begins.value) (ap (λ (l : List Token). l ++ g.begins.more) a.front_is ∙ append_assoc front (a.next ∷ a.more) g.begins.more) g.begins.spelled)
+    (subst (P g.begins.value) (ap (λ (l : List Token). l ++ g.begins.more) a.front_is ∙ append_assoc front (a.next ∷ a.more) g.begins.more) g.begins.spelled)
 
 pub one_place : {A : Type 0} {P : A → List Token → Type 0} {tokens front rest other after : List Token} → IsFaultAt P tokens front rest → IsFaultAt P tokens other after → (front ≡ other) × (rest ≡ after)
 one_place {front = front} {rest = rest} {other = other} {after = after} f g =

@@ -98,7 +98,7 @@ fn a_text_that_is_cut_has_its_fault_at_its_end(rt: HostRuntime) -> Result<(), Fa
     for text in STATEMENTS {
         let found = tokens(rt.alloc(), text).ok().ok_or("out of memory")?;
         for token in found.as_slice() {
-            let front = &text[..token.at as usize];
+            let front = text.get(..token.at as usize).ok_or("no place")?;
             let fault = fault_of(rt.alloc(), front)?;
             let at_end = SqlFault {
                 at: token.at,
@@ -283,10 +283,10 @@ fn the_parts_of_a_query_stand_in_their_places(rt: HostRuntime) -> Result<(), Fai
         )
     );
     assert!(rt; matches!(&second.check, Check::IsNotNull));
-    assert_eq!(rt; query.group.as_slice()[0].bytes(), b"g".as_slice());
-    let [position, item] = query.order.as_slice() else {
-        return Err("not two keys".into());
+    let ([group], [position, item]) = (query.group.as_slice(), query.order.as_slice()) else {
+        return Err("not one name and two keys".into());
     };
+    assert_eq!(rt; group.bytes(), b"g".as_slice());
     assert!(rt; position.descending && !item.descending);
     assert!(rt; matches!(&position.by, OrderBy::Position(2)));
     assert_eq!(rt; query.limit, Some(7));
@@ -320,10 +320,13 @@ fn the_parts_of_a_table_stand_in_their_places(rt: HostRuntime) -> Result<(), Fai
         return Err("no key or no partitions".into());
     };
     assert!(rt; key.model == Model::Aggregate);
-    assert!(rt; matches!(&ranges.parts.as_slice()[0].bounds, PartBounds::Less(None)));
+    let ([part], [property]) = (ranges.parts.as_slice(), def.properties.as_slice()) else {
+        return Err("not one partition and one property".into());
+    };
+    assert!(rt; matches!(&part.bounds, PartBounds::Less(None)));
     assert_eq!(rt; def.hash.len(), 1);
     assert_eq!(rt; def.buckets, Some(3));
-    assert_eq!(rt; def.properties.as_slice()[0].value.bytes(), b"b".as_slice());
+    assert_eq!(rt; property.value.bytes(), b"b".as_slice());
     Ok(())
 }
 
