@@ -35,4 +35,11 @@ impl Tokens {
     {
         self.tokens.as_slice()
     }
+
+    /// The tokens in their order, given back.
+    pub fn into_vec(self) -> Vec<Token>
+        ensures { result.items ≡ self }
+    {
+        self.tokens
+    }
 }

@@ -1,0 +1,11 @@
+pub mod Apart
+pub mod Readings
+pub mod Basics
+pub mod Sequences
+pub mod Choices
+pub mod Repeats
+pub mod Laws
+pub mod Loops
+pub mod Whole
+pub mod Singles
+pub mod Places

@@ -1,0 +1,11 @@
+pub mod Printing
+pub mod Steps
+pub mod Writable
+pub mod TextOf
+pub mod Parts
+pub mod ShownSelect
+pub mod ShownCreate
+pub mod ShownAlter
+pub mod ShownShow
+pub mod Shown
+pub mod Fit

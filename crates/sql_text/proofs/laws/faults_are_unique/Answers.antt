@@ -1,0 +1,9 @@
+use Rattle.sql_grammar.proofs.Places.{spelled_without_fault}
+use Rattle.sql_text.proofs.FaultLaws.{one_fault}
+use Rattle.sql_text.proofs.laws.faults_are_unique.Goals as goal
+
+pub returns-clause-one : goal.returns-clause-one
+returns-clause-one c = λ f g text h k. one_fault f g text h k
+
+pub returns-clause-none : goal.returns-clause-none
+returns-clause-none c = λ s f text h k. spelled_without_fault s h k.first

@@ -1,0 +1,13 @@
+pub mod Names
+pub mod Select
+pub mod Create
+pub mod Alter
+pub mod Show
+pub mod Statements
+pub mod Faults
+pub mod ReadNames
+pub mod ReadSelect
+pub mod ReadCreate
+pub mod ReadAlter
+pub mod ReadShow
+pub mod ReadStatements
