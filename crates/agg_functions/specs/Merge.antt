@@ -39,7 +39,8 @@ merged_cell kind.Max old new = skip_null greater old new
 merged_cell kind.Replace old new = new
 merged_cell kind.ReplaceIfNotNull old new = skip_null (λ a b. b) old new
 
--- what a merge keeps: it is associative, and a newer null leaves the old cell or takes its place
+-- what a merge keeps: it is associative, an older null counts for nothing, and a newer one leaves the old cell or takes its place
 pub record MergeLaws (op : Cell → Cell → Cell) : Type 0 where
   pub assoc : (a b c : Cell) → op (op a b) c ≡ op a (op b c)
+  pub starts : (b : Cell) → op cell.Null b ≡ b
   pub null : ((a : Cell) → op a cell.Null ≡ a) ⊎ ((a : Cell) → op a cell.Null ≡ cell.Null)

@@ -284,16 +284,6 @@ merged_some kind.ReplaceIfNotNull a b p q = skip_some (λ a b. b) (λ a b p q. q
 pub sum_comm : (a b : Cell) → merged_cell kind.Sum a b ≡ merged_cell kind.Sum b a
 sum_comm a b = skip_comm sum (λ a b p q. sum_comm_all a b) a b
 
-pub kind_laws : (k : AggKind) → MergeLaws (merged_cell k)
-kind_laws k = record { assoc = merge_assoc k; null = null k }
-  where
-    null : (k : AggKind) → ((a : Cell) → merged_cell k a cell.Null ≡ a) ⊎ ((a : Cell) → merged_cell k a cell.Null ≡ cell.Null)
-    null kind.Sum = inl (λ a. refl)
-    null kind.Min = inl (λ a. refl)
-    null kind.Max = inl (λ a. refl)
-    null kind.Replace = inr (λ a. refl)
-    null kind.ReplaceIfNotNull = inl (λ a. refl)
-
 -- a newer null leaves the old cell, but under REPLACE
 pub null_after : (k : AggKind) (a : Cell) → (k ≡ kind.Replace → ⊥) → merged_cell k a cell.Null ≡ a
 null_after kind.Sum a n = refl
@@ -309,3 +299,13 @@ null_before kind.Min b = null_left lesser b
 null_before kind.Max b = null_left greater b
 null_before kind.Replace b = refl
 null_before kind.ReplaceIfNotNull b = null_left (λ a b. b) b
+
+pub kind_laws : (k : AggKind) → MergeLaws (merged_cell k)
+kind_laws k = record { assoc = merge_assoc k; starts = null_before k; null = null k }
+  where
+    null : (k : AggKind) → ((a : Cell) → merged_cell k a cell.Null ≡ a) ⊎ ((a : Cell) → merged_cell k a cell.Null ≡ cell.Null)
+    null kind.Sum = inl (λ a. refl)
+    null kind.Min = inl (λ a. refl)
+    null kind.Max = inl (λ a. refl)
+    null kind.Replace = inr (λ a. refl)
+    null kind.ReplaceIfNotNull = inl (λ a. refl)

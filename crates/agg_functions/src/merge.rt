@@ -7,8 +7,8 @@ ghost use Rattle.agg_functions.specs.MergeLemmas.{kind_laws};
 use crate::merge_cells;
 use dl_values::{AggKind, Cell};
 
-/// A way to merge an old cell and a newer one. It is associative, so that parts may merge first, and a newer null
-/// leaves the old cell or takes its place.
+/// A way to merge an old cell and a newer one. It is associative, so that parts may merge first; an older null counts
+/// for nothing, and a newer one leaves the old cell or takes its place.
 pub trait Merge {
     ghost merged: { Self → Cell → Cell → Cell };
 

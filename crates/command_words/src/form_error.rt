@@ -1,12 +1,15 @@
 // Why words have no form.
 use std::alloc::AllocError;
+use thiserror::Error;
 
 /// Why the words were answered with no form.
-#[derive(Clone, Copy, Debug, PartialEq, Eq)]
+#[derive(Clone, Copy, Debug, PartialEq, Eq, Error)]
 pub enum FormError {
     /// The words are no command form.
+    #[error("the words are no command form")]
     Usage,
     /// There was not enough memory to tell.
+    #[error("there is not enough memory")]
     NoMemory,
 }
 

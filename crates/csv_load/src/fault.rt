@@ -1,11 +1,14 @@
 // Why a body has no rows.
 use dl_values::NoMemory;
+use thiserror::Error;
 
 /// Why a body was not read.
-#[derive(Clone, Copy, Debug, PartialEq, Eq)]
+#[derive(Clone, Copy, Debug, PartialEq, Eq, Error)]
 pub enum BodyFault {
     /// It has more records than this.
+    #[error("there are more than {limit} records")]
     TooManyRows { limit: u64 },
+    #[error("there is not enough memory")]
     NoMemory,
 }
 

@@ -4,11 +4,14 @@ ghost use Rattle.csv_load.specs.Options.{may_separate, separator_or_tab, ratio_o
 
 use crate::ratio::ratio;
 use crate::separator::separator;
+use thiserror::Error;
 
 /// Why there are no options.
-#[derive(Clone, Copy, Debug, PartialEq, Eq)]
+#[derive(Clone, Copy, Debug, PartialEq, Eq, Error)]
 pub enum OptionError {
+    #[error("the text stands for no separator")]
     BadSeparator,
+    #[error("the text stands for no ratio")]
     BadRatio,
 }
 

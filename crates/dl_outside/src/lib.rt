@@ -24,6 +24,9 @@ pub use sink::{Sink, write_all};
 pub use source::Source;
 pub use steps::Steps;
 
+use thiserror::Error;
+
 /// A device failed. Its count of faults rose.
-#[derive(Clone, Copy, Debug, PartialEq, Eq)]
+#[derive(Clone, Copy, Debug, PartialEq, Eq, Error)]
+#[error("a device failed")]
 pub struct Failed;

@@ -6,15 +6,19 @@ ghost use Rattle.dl_outside.specs.Reading.{AddsPiece, ConsumesSome};
 
 use crate::{Failed, Source};
 use std::alloc::{AllocError, Global};
+use thiserror::Error;
 
 /// Why reading to the end stopped before it.
-#[derive(Clone, Copy, Debug, PartialEq, Eq)]
+#[derive(Clone, Copy, Debug, PartialEq, Eq, Error)]
 pub enum ReadEnd {
     /// A read failed.
+    #[error("a read failed")]
     Fault,
     /// There are more bytes than the limit.
+    #[error("there are more bytes than the limit")]
     TooLong,
     /// There is no memory for the bytes.
+    #[error("there is not enough memory")]
     NoMemory,
 }
 

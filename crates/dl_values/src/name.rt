@@ -7,8 +7,10 @@ ghost use Rattle.std.specs.Cmp.Rules.{comparing, hashing};
 
 use crate::NoMemory;
 use std::alloc::Global;
+use std::fmt;
 use std::hash::{Hash, Hasher};
 use std::marker::Model;
+use std::str::from_utf8;
 
 /// A name of any bytes, compared exactly. Its form is judged by the command that takes it.
 #[derive(Debug, Drop)]
@@ -45,6 +47,16 @@ impl Hash for Name {
 
     fn hash<H: Hasher>(&self, state: &mut H) {
         self.bytes.as_slice().hash(state);
+    }
+}
+
+/// As text where the bytes are UTF-8, and else with escapes.
+impl fmt::Display for Name {
+    fn fmt<W: fmt::Write>(&self, f: &mut fmt::Formatter<W>) -> fmt::Result {
+        match from_utf8(self.bytes.as_slice()) {
+            Ok(text) => f.write_str(text),
+            Err(_) => write!(f, "{:?}", self.bytes.as_slice()),
+        }
     }
 }
 

@@ -7,12 +7,15 @@ use crate::day::read_day;
 use crate::number::number;
 use crate::{Cell, ColType, NoMemory, Text};
 use std::alloc::Global;
+use thiserror::Error;
 
 /// Why a text gives no cell.
-#[derive(Clone, Copy, Debug, PartialEq, Eq)]
+#[derive(Clone, Copy, Debug, PartialEq, Eq, Error)]
 pub enum ReadError {
     /// The type has no cell with this text.
+    #[error("the type has no cell with this text")]
     Unreadable,
+    #[error("there is not enough memory")]
     NoMemory,
 }
 

@@ -1,6 +1,7 @@
 // A label and the transaction that holds it.
 use crate::TxnState;
 use dl_values::{Name, NoMemory};
+use thiserror::Error;
 
 /// A transaction bound to its label in a database.
 #[derive(Debug, Drop)]
@@ -12,10 +13,12 @@ pub struct Binding {
 }
 
 /// Why a label was not bound.
-#[derive(Clone, Copy, Debug, PartialEq, Eq)]
+#[derive(Clone, Copy, Debug, PartialEq, Eq, Error)]
 pub enum BindError {
     /// The last transaction of the label is not aborted.
+    #[error("the label is used by transaction {txn}, which is {state:?}")]
     Used { txn: u64, state: TxnState },
+    #[error("there is not enough memory")]
     NoMemory,
 }
 

@@ -5,3 +5,4 @@ pub mod Names
 pub mod RowRules
 pub mod ShapeRules
 pub mod ShapeView
+pub mod CellsByName

@@ -50,8 +50,8 @@ fn is_text(limit: u32, bytes: &[u8]) -> bool
     }
 }
 
-// Whether a cell is of a type. A null is of none.
-fn is_of_type(kind: ColType, cell: &Cell) -> bool
+/// Whether a cell is of a type. A null is of none.
+pub fn is_of_type(kind: ColType, cell: &Cell) -> bool
     ensures { result ≡ types.is_of_type kind cell.now }
 {
     match (kind, cell) {

@@ -16,6 +16,7 @@ mod row_test;
 mod shape;
 mod shape_error;
 
+pub use cell_types::is_of_type;
 pub use column_def::ColumnDef;
 pub use folds::fold;
 pub use keys::key_of;
