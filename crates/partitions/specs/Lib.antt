@@ -1,1 +1,6 @@
+pub mod Columns
 pub mod LayoutView
+pub mod Places
+pub mod Ranges
+pub mod LayoutFaults
+pub mod LayoutRules

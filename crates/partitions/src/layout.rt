@@ -2,17 +2,21 @@
 ghost use Rattle.std.specs.Prelude.{◌≡◌, IfOk};
 ghost use Rattle.std.specs.Option.{option_copied};
 
-use crate::part_def::copy_part;
-use crate::{Bounds, PartDef};
-use dl_values::{Name, NoMemory};
+use crate::PartDef;
+use crate::columns::{copy_name, copy_names, names_of, type_of};
+use crate::part_def::{copy_parts, whole_part};
+use dl_values::{ColType, Name, NoMemory};
+use schema_models::Shape;
 use sqlite_items::Items;
 use std::alloc::Global;
 use std::marker::Model;
 
-/// The partitions of a table and the columns that its buckets are hashed by, which contracts see as a record (Apache
-/// Doris documentation, "Data Partitioning").
+/// The partitions of a table and the columns that its buckets are hashed by, which contracts see as a record, with the
+/// names of the columns of its rows and the type of the partition column (Apache Doris documentation, "Data Partitioning").
 #[derive(Debug, Drop)]
 pub struct Layout {
+    columns: Items<Name>,
+    kind: Option<ColType>,
     column: Option<Name>,
     parts: Items<PartDef>,
     hash: Items<Name>,
@@ -24,61 +28,39 @@ impl Model for Layout {
 
     ghost Value = { LayoutView };
 
-    ghost view = { λ l. record { column = l.column; parts = l.parts; hash = l.hash; buckets = l.buckets } };
-}
-
-fn copy_parts(alloc: Global, parts: &[PartDef]) -> Result<Items<PartDef>, NoMemory>
-    ensures { IfOk result (λ v. v ≡ parts.now) }
-{
-    let mut all = Items::new(alloc);
-    for part in parts {
-        all.push(copy_part(alloc, part)?)?;
-    }
-    Ok(all)
-}
-
-fn copy_names(alloc: Global, names: &[Name]) -> Result<Items<Name>, NoMemory>
-    ensures { IfOk result (λ v. v ≡ names.now) }
-{
-    let mut all = Items::new(alloc);
-    for name in names {
-        all.push(name.copy(alloc)?)?;
-    }
-    Ok(all)
-}
-
-fn copy_column(alloc: Global, column: &Option<Name>) -> Result<Option<Name>, NoMemory>
-    ensures { IfOk result (λ c. c ≡ column.now) }
-{
-    match column {
-        None => Ok(None),
-        Some(name) => Ok(Some(name.copy(alloc)?)),
-    }
+    ghost view = { λ l. record { columns = l.columns; kind = l.kind; column = l.column; parts = l.parts; hash = l.hash; buckets = l.buckets } };
 }
 
 impl Layout {
-    ghost use Rattle.partitions.specs.LayoutView.{whole};
+    ghost use Rattle.partitions.specs.LayoutView.{over, whole};
 
-    /// One partition without ends, which has the table's name.
+    /// One partition without ends for rows of this shape, which has the table's name.
     pub fn whole(
         alloc: Global,
+        shape: &Shape,
         name: Name,
         hash: Items<Name>,
         buckets: u32,
     ) -> Result<Layout, NoMemory>
-        ensures { IfOk result (λ l. l ≡ whole name hash buckets) }
+        ensures { IfOk result (λ l. l ≡ whole shape.now name hash buckets) }
     {
-        let mut parts = Items::new(alloc);
-        parts.push(PartDef {
-            name,
-            bounds: Bounds::Between(None, None),
-        })?;
+        let columns = names_of(alloc, shape.columns())?;
+        let parts = whole_part(alloc, name)?;
         Ok(Layout {
+            columns,
+            kind: None,
             column: None,
             parts,
             hash,
             buckets,
         })
+    }
+
+    /// The names of the columns of its rows.
+    pub fn columns(&self) -> &[Name]
+        ensures { result.now ≡ self.now.columns }
+    {
+        self.columns.as_slice()
     }
 
     /// The column that the partitions are ranges of.
@@ -88,7 +70,7 @@ impl Layout {
         self.column.as_ref()
     }
 
-    /// The partitions in their order.
+    /// The partitions in their order, each range as a Between.
     pub fn parts(&self) -> &[PartDef]
         ensures { result.now ≡ self.now.parts }
     {
@@ -113,14 +95,27 @@ impl Layout {
     pub fn copy(&self, alloc: Global) -> Result<Layout, NoMemory>
         ensures { IfOk result (λ l. l ≡ self.now) }
     {
-        let column = copy_column(alloc, &self.column)?;
+        let columns = copy_names(alloc, self.columns.as_slice())?;
+        let column = copy_name(alloc, &self.column)?;
         let parts = copy_parts(alloc, self.parts.as_slice())?;
         let hash = copy_names(alloc, self.hash.as_slice())?;
         Ok(Layout {
+            columns,
+            kind: self.kind,
             column,
             parts,
             hash,
             buckets: self.buckets,
         })
+    }
+
+    /// The same layout for rows of another shape, whose columns may stand at other places.
+    pub fn over(&self, alloc: Global, shape: &Shape) -> Result<Layout, NoMemory>
+        ensures { IfOk result (λ l. l ≡ over shape.now self.now) }
+    {
+        let mut layout = self.copy(alloc)?;
+        layout.columns = names_of(alloc, shape.columns())?;
+        layout.kind = type_of(shape.columns(), &self.column);
+        Ok(layout)
     }
 }

@@ -1,13 +1,16 @@
 //! Layouts of tables: partitions by range, and buckets by hash.
 #![tactic(auto)]
 
+mod columns;
 mod layout;
 mod layout_error;
 mod part_def;
+mod parts_def;
 
 pub use layout::Layout;
 pub use layout_error::LayoutError;
 pub use part_def::{Bounds, PartDef};
+pub use parts_def::PartsDef;
 
 #[cfg(test)]
 mod tests;

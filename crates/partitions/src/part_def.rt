@@ -1,7 +1,9 @@
 // One partition of a table.
-ghost use Rattle.std.specs.Prelude.{◌≡◌, IfOk};
+ghost use Rattle.std.specs.Prelude.{◌≡◌, ◌∷◌, [], IfOk};
+ghost use Rattle.partitions.specs.LayoutView as layouts;
 
 use dl_values::{Cell, Name, NoMemory, copy_cell};
+use sqlite_items::Items;
 use std::alloc::Global;
 
 /// A partition by its name and its range (Apache Doris documentation, "Data Partitioning").
@@ -41,11 +43,34 @@ fn copy_bounds(alloc: Global, bounds: &Bounds) -> Result<Bounds, NoMemory>
     }
 }
 
-/// An equal partition of its own.
+// An equal partition of its own.
 pub fn copy_part(alloc: Global, part: &PartDef) -> Result<PartDef, NoMemory>
     ensures { IfOk result (λ p. p ≡ part.now) }
 {
     let name = part.name.copy(alloc)?;
     let bounds = copy_bounds(alloc, &part.bounds)?;
     Ok(PartDef { name, bounds })
+}
+
+// Equal partitions of their own.
+pub fn copy_parts(alloc: Global, parts: &[PartDef]) -> Result<Items<PartDef>, NoMemory>
+    ensures { IfOk result (λ v. v ≡ parts.now) }
+{
+    let mut all = Items::new(alloc);
+    for part in parts {
+        all.push(copy_part(alloc, part)?)?;
+    }
+    Ok(all)
+}
+
+// One partition without ends.
+pub fn whole_part(alloc: Global, name: Name) -> Result<Items<PartDef>, NoMemory>
+    ensures { IfOk result (λ v. v ≡ layouts.whole_part name ∷ []) }
+{
+    let mut parts = Items::new(alloc);
+    parts.push(PartDef {
+        name,
+        bounds: Bounds::Between(None, None),
+    })?;
+    Ok(parts)
 }

@@ -1,6 +1,6 @@
 -- The first parts are copied.
 use Rattle.std.proofs.Common.{◌≡◌, take}
-use Rattle.partitions.proofs.layout.copy_parts.Given as goal
+use Rattle.partitions.proofs.part_def.copy_parts.Given as goal
 
 abbrev pub invariant-loop-part : goal.invariant-loop-part
 invariant-loop-part l = l.all ≡ take l.part-index l.parts

@@ -1,6 +1,6 @@
 -- The first names are copied.
 use Rattle.std.proofs.Common.{◌≡◌, take}
-use Rattle.partitions.proofs.layout.copy_names.Given as goal
+use Rattle.partitions.proofs.columns.copy_names.Given as goal
 
 abbrev pub invariant-loop-name : goal.invariant-loop-name
 invariant-loop-name l = l.all ≡ take l.name-index l.names
