@@ -66,6 +66,10 @@ lacks-full pending (Some left) full none =
     long : (xs : List ℕ) → 16384 ≤ length xs → xs ≢ []
     long xs h e = let zero : length xs ≡ 0 = ap length e in omega arith
 
+-- all of the pending bytes were looked at
+pub no_head-all : (pending : List ℕ) → length pending < 16384 → HasNoRequest (take 16384 pending) → HasNoHead pending
+no_head-all pending short none tree rest begins = (subst HasNoRequest (take_all 16384 pending (omega arith)) none) tree rest begins.reads
+
 pub lacks-end : (pending piece : List ℕ) (left after : Option (List ℕ)) → pending ≢ [] → length pending < 16384 → HasNoRequest (take 16384 pending)
     → Consumes left after piece → length piece ≡ 0 → IsAtEnd after → IfSome (prepend_known pending left) LacksHead
 lacks-end pending piece None after some short none gone empty end = tt

@@ -32,7 +32,7 @@ bad fields n (inl coded) has = coded has.uncoded
 bad fields n (inr (inl digits)) has = digits has.digits
 bad fields n (inr (inr differ)) has = differ n has.equal
 
-heads : (at : ℕ) (text : List ℕ) (one other : Head) (rest left : List ℕ) → TakesHead at text one rest → TakesHead at text other left → (one ≡ other) × (rest ≡ left)
+pub heads : (at : ℕ) (text : List ℕ) (one other : Head) (rest left : List ℕ) → TakesHead at text one rest → TakesHead at text other left → (one ≡ other) × (rest ≡ left)
 heads at text one other rest left x y =
     let same = trees text x.tree y.tree rest left x.begins y.begins in
     let sizes : x.is.0 ≡ y.is.0 = size (fields_of y.tree) x.is.0 y.is.0 (subst (λ (t : RequestHead). HasLength (fields_of t) x.is.0) same.0 x.is.1) y.is.1 in
@@ -44,7 +44,7 @@ no-length at text head left tree rest begins wrong takes =
     bad (fields_of tree) takes.is.0 wrong (subst (λ (t : RequestHead). HasLength (fields_of t) takes.is.0) (trees text takes.tree tree left rest takes.begins begins).0 takes.is.1)
 
 -- an empty text begins with no head
-empty : (tree : RequestHead) (rest : List ℕ) → BeginsWith [] tree rest → ⊥
+pub empty : (tree : RequestHead) (rest : List ℕ) → BeginsWith [] tree rest → ⊥
 empty tree rest begins =
     let method = begins.reads.0.method.0 in
     let after = tree.target ++ 32 ∷ (print_version tree.minor ++ (print_end tree.line_end ++ (print_section tree.fields tree.last ++ rest))) in
@@ -67,7 +67,7 @@ whole : (body : BodyLength) (a b : List ℕ) → IsBodyOf body a → IsBodyOf bo
 whole (Fixed n) a b x y = x.0 ∙ sym y.0
 whole Chunked a b x y = absurd x
 
-bodies : (text : List ℕ) (head : Head) (a b rest left : List ℕ) → TakesBody text head a rest → TakesBody text head b left → (a ≡ b) × (rest ≡ left)
+pub bodies : (text : List ℕ) (head : Head) (a b rest left : List ℕ) → TakesBody text head a rest → TakesBody text head b left → (a ≡ b) × (rest ≡ left)
 bodies text head a b rest left x y = prefix a b rest left (whole head.body a b x.whole y.whole) (sym x.parts ∙ y.parts)
 
 long-or-cut : (body : BodyLength) (text : Option (List ℕ)) (got wanted : ℕ) → IsTooLong body → IsCut body text got wanted → ⊥
@@ -141,7 +141,7 @@ ends at text None (Some d) x y = absurd (fails-some at text d y x)
 ends at text (Some e) None x y = absurd (fails-some at text e x y)
 ends at text (Some e) (Some d) x y = ap (λ (error : WireError). Some error) (fails at text e d x y)
 
-fails-or-takes : (at : ℕ) (text : List ℕ) (e : WireError) (head : Head) (behind body rest : List ℕ) → Fails at text e → TakesHead at text head behind → TakesBody behind head body rest → ⊥
+pub fails-or-takes : (at : ℕ) (text : List ℕ) (e : WireError) (head : Head) (behind body rest : List ℕ) → Fails at text e → TakesHead at text head behind → TakesBody behind head body rest → ⊥
 fails-or-takes at text (BadHead p) head behind body rest x takes gives = x.1.1 takes.tree behind takes.begins
 fails-or-takes at text (BadLength p) head behind body rest x takes gives = no-length at text head behind x.1.0 x.1.1 x.1.2 x.1.3 takes
 fails-or-takes at text (BodyTooLong p) head behind body rest x takes gives =

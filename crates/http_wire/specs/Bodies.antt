@@ -6,6 +6,7 @@ use Rattle.http_wire.specs.declared.error.WireError.TheVariants.{BadHead, BadLen
 use Rattle.http_wire.specs.declared.head.BodyLength.{BodyLength}
 use Rattle.http_wire.specs.declared.head.BodyLength.TheVariants.{Fixed, Chunked}
 use Rattle.http_wire.specs.declared.head.Head.{Head}
+use Rattle.http_wire.specs.Taking.{TakesLess}
 
 -- the length is above the limit
 abbrev pub IsTooLong : BodyLength → Type 0
@@ -21,6 +22,11 @@ IsBodyOf Chunked body = ⊥
 abbrev pub IsCut : BodyLength → Option (List ℕ) → ℕ → ℕ → Type 0
 IsCut (Fixed n) text got wanted = (wanted ≡ n) × (n ≤ 16777216) × (got < wanted) × IfSome text (λ bytes. length bytes ≡ got)
 IsCut Chunked text got wanted = ⊥
+
+-- fewer bytes than the body of that length has left the front of the text, and what stands behind them is left
+abbrev pub TakesPart : BodyLength → Option (List ℕ) → Option (List ℕ) → Type 0
+TakesPart (Fixed n) text left = TakesLess n text left
+TakesPart Chunked text left = ⊥
 
 -- why no body was read for the head from the text behind it, with the counts of the source's faults before and now
 abbrev pub BodyFault : Head → Option (List ℕ) → ℕ → ℕ → WireError → Type 0

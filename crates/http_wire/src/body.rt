@@ -1,8 +1,8 @@
 // Taking a body out of the pending bytes and the source.
-ghost use Rattle.std.specs.Prelude.{◌≡◌, ◌≢◌, ◌≤◌, ◌<◌, [], IfErr, IfOk, OnErr, OnOk, length};
+ghost use Rattle.std.specs.Prelude.{◌≡◌, ◌≢◌, ◌≤◌, ◌<◌, [], Err, IfErr, IfOk, OnErr, OnOk, length};
 ghost use Rattle.std.specs.Io.KnownBytes.{Consumes, prepend_known};
 ghost use Rattle.dl_outside.specs.Reading.{ConsumesSome};
-ghost use Rattle.http_wire.specs.Taking.{MovesPiece, StopsShort};
+ghost use Rattle.http_wire.specs.Taking.{MovesPiece, StopsShort, TakesLess};
 
 use crate::buffer::Buffer;
 use dl_outside::{Failed, Source};
@@ -27,6 +27,7 @@ pub fn take_body<S: Source>(
     ensures whole { IfOk result (λ body. length body.items ≡ wanted) }
     ensures input { IfOk result (λ body. Consumes (prepend_known buffer.old (S.left source.old)) (prepend_known buffer.new (S.left source.new)) body.items) }
     ensures fault { IfErr result (StopsShort wanted (prepend_known buffer.old (S.left source.old)) (S.faults source.old) (S.faults source.new)) }
+    ensures unread { result ≡ Err NoBody.Fault → TakesLess wanted (prepend_known buffer.old (S.left source.old)) (S.left source.new) }
     ensures lost { OnErr result (ConsumesSome (prepend_known buffer.old (S.left source.old)) (prepend_known buffer.new (S.left source.new))) }
     ensures later { S.faults source.old ≤ S.faults source.new }
 {

@@ -68,6 +68,7 @@ impl Buffer {
     /// Reads once from the source where there are no bytes, and tells whether there are some then.
     pub fn fill<S: Source>(&mut self, source: &mut S) -> Result<bool, Failed>
         ensures some { IfOk result (λ some. MatchBool some (self.new ≢ []) ((self.new ≡ []) × IsAtEnd (S.left source.new))) }
+        ensures none { IsErr result → self.new ≡ [] }
         ensures keeps { Keeps (prepend_known self.old (S.left source.old)) (prepend_known self.new (S.left source.new)) }
         ensures later { S.faults source.old ≤ S.faults source.new }
         ensures cause { IsErr result → HasRisen (S.faults source.old) (S.faults source.new) }

@@ -5,7 +5,7 @@ ghost use Rattle.dl_outside.specs.Faults.{HasRisen};
 ghost use Rattle.httparse.specs.Grammar.{HasNoRequest, RequestHead};
 ghost use Rattle.httparse.specs.Outcome.{IfComplete, OnPartial};
 ghost use Rattle.httparse.specs.Spans.{IsRequestOf, IsRequestWithin, RequestOverflows};
-ghost use Rattle.http_wire.specs.Heads.{LacksHead, IsFoundAt};
+ghost use Rattle.http_wire.specs.Heads.{HasNoHead, LacksHead, IsFoundAt};
 
 use crate::MAX_HEAD;
 use crate::buffer::Buffer;
@@ -33,6 +33,7 @@ pub fn find_head<S: Source>(
     ensures head { IfOk result (λ found. (tree : RequestHead) × IsFoundAt (take 16384 buffer.new) spans.new found tree) }
     ensures bad { result ≡ Err NoHead.Bad → IfSome (prepend_known buffer.old (S.left source.old)) LacksHead }
     ensures fault { result ≡ Err NoHead.Fault → HasRisen (S.faults source.old) (S.faults source.new) }
+    ensures unread { result ≡ Err NoHead.Fault → HasNoHead buffer.new }
     ensures keeps { Keeps (prepend_known buffer.old (S.left source.old)) (prepend_known buffer.new (S.left source.new)) }
     ensures later { S.faults source.old ≤ S.faults source.new }
 {

@@ -1,12 +1,12 @@
 // Reading requests.
-ghost use Rattle.std.specs.Prelude.{◌≡◌, ◌≢◌, ◌≤◌, ◌<◌, ◌-◌, [], ℕ, List, Option, All, IfErr, IfOk, IfSome, IsNone, MatchResult, OnErr, Ok, None, Some, drop, length, take};
+ghost use Rattle.std.specs.Prelude.{◌≡◌, ◌≢◌, ◌≤◌, ◌<◌, ◌-◌, [], ℕ, List, Option, All, Err, IfErr, IfOk, IfSome, IsNone, MatchResult, OnErr, Ok, None, Some, drop, length, take};
 ghost use Rattle.std.specs.Io.KnownBytes.{Consumes};
 ghost use Rattle.dl_outside.specs.Faults.{HasRisen};
 ghost use Rattle.dl_outside.specs.Reading.{ConsumesSome};
 ghost use Rattle.httparse.specs.Grammar.{RequestHead};
 ghost use Rattle.httparse.specs.Spans.{IsRequestAt, IsRequestWithin};
-ghost use Rattle.http_wire.specs.Bodies.{BodyFault, IsBodyOf};
-ghost use Rattle.http_wire.specs.Heads.{HandsOut, HeadFault, IsFoundAt, KeepsBack, TakesHead};
+ghost use Rattle.http_wire.specs.Bodies.{BodyFault, IsBodyOf, TakesPart};
+ghost use Rattle.http_wire.specs.Heads.{HandsOut, HasNoHead, HeadFault, IsFoundAt, KeepsBack, TakesHead};
 ghost use Rattle.http_wire.specs.Reader.{Reader, StaysAt, input, place_after};
 ghost use Rattle.http_wire.specs.declared.head.BodyLength.TheVariants.{Fixed};
 
@@ -66,6 +66,8 @@ impl HttpReader {
             × (self.new.at ≡ place_after self.old.at (length text - length rest))))) }
         ensures none { result ≡ Ok None → IfSome (input self.old (S.left source.old)) (λ text. text ≡ []) }
         ensures fault { IfErr result (HeadFault self.old.at (input self.old (S.left source.old)) (S.faults source.old) (S.faults source.new)) }
+        // Where a read failed, no head stands in the bytes that were read.
+        ensures unread { result ≡ Err WireError.ReadFault → HasNoHead self.new.pending }
         ensures stays { MatchResult result (λ found. IsNone found → StaysAt self.old (S.left source.old) self.new (S.left source.new)) (λ _. StaysAt self.old (S.left source.old) self.new (S.left source.new)) }
         ensures later { S.faults source.old ≤ S.faults source.new }
     {
@@ -94,6 +96,8 @@ impl HttpReader {
         ensures input { IfOk result (λ body. Consumes (input self.old (S.left source.old)) (input self.new (S.left source.new)) body.items) }
         ensures place { IfOk result (λ body. self.new.at ≡ place_after self.old.at (length body.items)) }
         ensures fault { IfErr result (BodyFault head.now (input self.old (S.left source.old)) (S.faults source.old) (S.faults source.new)) }
+        // Where a read failed, fewer bytes than the body has were read behind the head.
+        ensures unread { result ≡ Err WireError.ReadFault → TakesPart head.now.body (input self.old (S.left source.old)) (S.left source.new) }
         ensures lost { OnErr result (ConsumesSome (input self.old (S.left source.old)) (input self.new (S.left source.new))) }
         ensures later { S.faults source.old ≤ S.faults source.new }
     {
@@ -127,6 +131,7 @@ impl HttpReader {
             (rest : List ℕ) × TakesHead self.old.at text head rest × (input self.new (S.left source.new) ≡ Some rest)
             × (self.new.at ≡ place_after self.old.at (length text - length rest)))) }
         ensures fault { IfErr result (HeadFault self.old.at (input self.old (S.left source.old)) (S.faults source.old) (S.faults source.new)) }
+        ensures unread { result ≡ Err WireError.ReadFault → HasNoHead self.new.pending }
         ensures stays { OnErr result (StaysAt self.old (S.left source.old) self.new (S.left source.new)) }
         ensures later { S.faults source.old ≤ S.faults source.new }
     {

@@ -2,9 +2,9 @@ use Rattle.std.proofs.Common.{◌≡◌, ◌≤◌, ◌∙◌, rules, arith, tak
 use Rattle.std.specs.Io.KnownBytes.{prepend_known}
 use Rattle.httparse.specs.Grammar.{HasNoRequest}
 use Rattle.httparse.specs.Spans.{RequestOverflows}
-use Rattle.http_wire.specs.Heads.{IsFoundAt, LacksHead}
+use Rattle.http_wire.specs.Heads.{HasNoHead, IsFoundAt, LacksHead}
 use Rattle.http_wire.proofs.LineFacts.{no-head_of_nothing, seen-again}
-use Rattle.http_wire.proofs.HeadFacts.{back, found, kept-more, nothing, lacks-end, lacks-error, lacks-full}
+use Rattle.http_wire.proofs.HeadFacts.{back, found, kept-more, no_head-all, nothing, lacks-end, lacks-error, lacks-full}
 use Rattle.http_wire.proofs.find.find_head.Goals as goal
 
 pub returns-in-Ok-Complete-clause-head : goal.returns-in-Ok-Complete-clause-head
@@ -61,3 +61,8 @@ loop-found-preserved g c =
       none = subst (λ (n : ℕ). HasNoRequest (take n (take 16384 c.refill.new.self))) (sym c.len-seen.ensures) old;
       later = omega (arith, c.in-Ok.ensures.later);
     }
+
+pub returns-in-Err-refill-clause-unread : goal.returns-in-Err-refill-clause-unread
+returns-in-Err-refill-clause-unread g c = λ e.
+    let none : HasNoRequest (take 16384 c.loop-found.buffer) = search rules in
+    subst HasNoHead (sym c.in-Err-refill.ensures.read.0) (no_head-all c.loop-found.buffer (omega arith) none)
