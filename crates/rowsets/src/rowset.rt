@@ -1,14 +1,14 @@
 // Folded rows that do not change any more.
 ghost use Rattle.std.specs.Prelude.{◌≡◌, ◌↔◌, IfOk, IsTrue};
 ghost use Rattle.std.specs.List.{AllByRecursion};
-ghost use Rattle.rowsets.specs.RowsetView.{IsMadeFor, IsRowsetOf, rowset_rows};
+ghost use Rattle.rowsets.specs.RowsetView.{IsMadeFor, IsRowsetOf, IsSortedFor, rowset_rows};
 ghost use Rattle.schema_models.specs.RowRules.{IsOfShape};
 
 use columnar::Marks;
 use dl_outside::Steps;
 use dl_values::{NoMemory, RowView, Rows};
 use row_fold::{SortedRows, fold_rows};
-use schema_models::Shape;
+use schema_models::{Shape, laws};
 use std::alloc::Global;
 use std::marker::Model;
 use std::sync::Arc;
@@ -23,11 +23,13 @@ pub struct Rowset {
 }
 
 impl Model for Rowset {
-    ghost use Rattle.rowsets.specs.RowsetView.{RowsetView};
+    ghost use Rattle.rowsets.specs.RowsetView.{IsSound, RowsetView};
 
     ghost Value = { RowsetView };
 
     ghost view = { λ r. record { marks = r.marks; rows = r.rows } };
+
+    ghost invariant = { λ r. IsSound (record { marks = r.marks; rows = r.rows }) };
 }
 
 impl Rowset {
@@ -36,6 +38,9 @@ impl Rowset {
         requires { AllByRecursion (IsOfShape shape.now) rows }
         ensures { IfOk result (λ r. IsRowsetOf shape.now rows r.value) }
     {
+        shape.vouch();
+        laws::rows_of_a_shape_stay_so();
+        laws::folds_are_determined();
         let folded = fold_rows(alloc, shape, rows)?;
         let marks = Marks::of(alloc, shape)?;
         let rowset = Rowset {
@@ -48,7 +53,8 @@ impl Rowset {
     /// Whether the shape that it was built with has the model, the number of keys, the column types and the nullable marks
     /// of this one. Takes no memory, and looks at no row.
     pub fn is_of(&self, shape: &Shape) -> bool
-        ensures { IsTrue result ↔ IsMadeFor shape.now self.now }
+        ensures made { IsTrue result ↔ IsMadeFor shape.now self.now }
+        ensures sorted { IsTrue result → IsSortedFor shape.now self.now }
     {
         self.marks.is_of(shape)
     }
