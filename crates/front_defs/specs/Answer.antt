@@ -2,6 +2,7 @@
 use Rattle.std.specs.Prelude.{◌≡◌, ℕ, ◌+◌, ◌≤◌, Bool, cond, not, ◌&&◌, List, [], ◌∷◌, Option, Some, None, is_some, is_none, map, length, nat_le}
 use Rattle.std.specs.List.{flat_map}
 use Rattle.dl_values.specs.declared.cell.Cell.{Cell}
+use Rattle.rowsets.specs.RowsetView.{rowset_rows}
 use Rattle.sql_text.specs.declared.plain_def.PlainDef.{PlainDef}
 use Rattle.shadow_writes.specs.declared.plan.Plan.{Plan}
 use Rattle.table_defs.specs.declared.def_error.DefError.{DefError}
@@ -132,7 +133,7 @@ pub record ShowsBase (t : Table) (base : List (List Cell)) (cost : ℕ) (lists :
   pub stored : length (flat_map (λ l. l) lists) ≤ cost
 
 abbrev pub Shows : Table → List (List Cell) → ℕ → Reply → Type 0
-Shows t base cost (reply.Snap s) = (s.base ≡ t.shape) × (s.index ≡ t.shape) × ShowsBase t base cost (map (λ l. l.value) s.lists)
+Shows t base cost (reply.Snap s) = (s.base ≡ t.shape) × (s.index ≡ t.shape) × ShowsBase t base cost (map (λ l. rowset_rows l.value) s.lists)
 Shows t base cost _ = ⊥
 
 abbrev pub ShownFor : Option Table → (ℕ → List (List Cell)) → (ℕ → ℕ) → Reply → Type 0

@@ -49,7 +49,7 @@ buckets_by def = unwrap_or def.buckets 10
 
 -- one partition with the table's name
 abbrev pub layout_by : List ℕ → PlainDef → LayoutView
-layout_by table def = whole table def.hash (buckets_by def)
+layout_by table def = whole (shape_by def) table def.hash (buckets_by def)
 
 -- the position of the first name of a key list that is not that of the column in its place
 abbrev pub first_differs : ℕ → List (List ℕ) → List PlainColumn → Option ℕ

@@ -73,8 +73,22 @@ outcome (reply.Submitted placed) = Well
 outcome (reply.Published txn place) = Well
 outcome (reply.Aborted txn) = Well
 outcome (reply.Snap snapshot) = Well
+outcome reply.BadName = Refused
+outcome reply.DbExists = Refused
+outcome reply.TooManyDbs = Refused
+outcome reply.UnknownDb = Refused
+outcome reply.TableExists = Refused
+outcome reply.TooManyTables = Refused
+outcome (reply.BadTable error) = Refused
+outcome reply.UnknownTable = Refused
+outcome reply.BadLabel = Refused
+outcome (reply.Used txn state) = Refused
+outcome reply.NoSuchTxn = Refused
+outcome (reply.WrongState state) = Refused
+outcome (reply.Expired since) = Refused
+outcome reply.NothingToPublish = Refused
 outcome reply.KeeperFault = Faulted
-outcome _ = Refused
+outcome reply.NoMemory = Refused
 
 -- A call has its effect where it was answered well. Where the keeper failed and the record reached it all the same, it has the effect that the record tells.
 abbrev pub effect_of : Outcome → Bool → List Event → List Event

@@ -45,8 +45,8 @@ pub record FollowsDb (Es : List Event) (d : DbMade) : Type 0 where
   pub room : nat_le most (length (databases_of Es)) ≡ false
 
 -- a layout for rows of that shape: so far one partition with the table's name
-pub record IsLayout (table : List ℕ) (s : ShapeView) (l : LayoutView) : Type 0 where
-  pub parts : l ≡ whole table l.hash l.buckets
+pub record IsWhole (table : List ℕ) (s : ShapeView) (l : LayoutView) : Type 0 where
+  pub parts : l ≡ whole s table l.hash l.buckets
   pub valid : layout_fault s l.hash l.buckets ≡ None
 
 -- a new table of a known database, with a valid shape and layout
@@ -56,7 +56,7 @@ pub record FollowsTable (Es : List Event) (m : TableMade) : Type 0 where
   pub new : is_some (table_named m.db m.name (tables_of Es)) ≡ false
   pub room : nat_le most (length (tables_of Es)) ≡ false
   pub shape : IsShape m.shape
-  pub layout : IsLayout m.name m.shape m.layout
+  pub layout : IsWhole m.name m.shape m.layout
 
 -- the label of a load has the form of a label, or is the one that its number gives it
 abbrev pub is_load_label : ℕ → List ℕ → Bool
@@ -66,8 +66,9 @@ is_load_label id label = is_label label || same label (auto_label id)
 abbrev pub hinders : ℕ → List ℕ → List ℕ → Txn → Bool
 hinders id db label u = holds db label u && (nat_lt id u.id || not (is_aborted u.state))
 
--- a load of a live table that was not told yet: its number lies in a range, and its rows are of the table's present schema
+-- a load of a live table that was not told yet: its number lies in a range, which begins at 1, and its rows are of the table's present schema
 pub record FollowsLoad (Es : List Event) (s : LoadSubmitted) (t : Table) : Type 0 where
+  pub from : 1 ≤ s.txn
   pub within : s.txn ≤ range_of Es
   pub new : list_any (nat_eq s.txn) (told_ids Es) ≡ false
   pub label : is_load_label s.txn s.label ≡ true

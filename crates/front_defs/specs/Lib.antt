@@ -11,5 +11,6 @@ pub mod Journal
 pub mod May
 pub mod Legal
 pub mod Stands
+pub mod Gives
 pub mod Turn
 pub mod Script

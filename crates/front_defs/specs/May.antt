@@ -2,6 +2,7 @@
 use Rattle.std.specs.Prelude.{◌≡◌, ℕ, List, [], ◌∷◌, ◌⊎◌}
 use Rattle.dl_values.specs.declared.cell.Cell.{Cell}
 use Rattle.schema_models.specs.ShapeView.{ShapeView}
+use Rattle.rowsets.specs.RowsetView.{IsRowsetOf}
 use Rattle.shadow_writes.specs.declared.plan.Plan.{Plan}
 use Rattle.shadow_writes.specs.declared.built.Built.{Built}
 use Rattle.shadow_writes.specs.declared.built.Mapped.{Mapped}
@@ -13,7 +14,6 @@ use Rattle.front_defs.specs.declared.reply.Reply.{Reply}
 use Rattle.front_defs.specs.declared.reply.Reply.TheVariants as reply
 use Rattle.front_defs.specs.declared.history.Entry.{Entry}
 use Rattle.front_defs.specs.declared.history.Entry.TheVariants.{Told, Made}
-use Rattle.schema_models.specs.Folds.{fold_of}
 use Rattle.front_defs.specs.Stored.{AreRowsOf}
 
 -- it has one member, which has this
@@ -22,11 +22,11 @@ Only [] P = ⊥
 Only (x ∷ []) P = P x
 Only (x ∷ y ∷ xs) P = ⊥
 
--- the one tablet of the base gets the fold of the rows
+-- the one tablet of the base gets a rowset of the rows: their fold, made for the shape of the base
 pub record GetsFold (base : ShapeView) (rows : List (List Cell)) (s : TabletRows) : Type 0 where
   pub part : s.part ≡ 0
   pub bucket : s.bucket ≡ 0
-  pub folded : s.rows.value ≡ fold_of base rows
+  pub built : IsRowsetOf base rows s.rows.value
 
 -- a load without rows writes no tablet
 abbrev pub SetsOf : ShapeView → List (List Cell) → List TabletRows → Type 0

@@ -5,7 +5,6 @@ use Rattle.front_defs.specs.declared.reply.Reply.{Reply}
 use Rattle.front_defs.specs.declared.history.Call.{Call}
 use Rattle.front_defs.specs.declared.history.Entry.{Entry}
 use Rattle.front_defs.specs.declared.history.Entry.TheVariants.{Made}
-use Rattle.front_defs.specs.Legal.{Legal}
 
 -- A script ends with a response, or asks a command and goes on by its reply, or does work between two turns: it goes on as it was meant to, or for want of memory.
 pub data Script (Response : Type 0) : Type 0 where
@@ -25,13 +24,16 @@ abbrev pub after : List Call → List Entry → List Entry
 after [] H = H
 after (e ∷ E) H = after E (Made e ∷ H)
 
--- what stood for the seen and the own list stands for them with these calls at the end of the own list
+-- From what was seen one comes to what is seen now by these calls, the oldest first: before each of them others may have made entries, and nothing comes behind the last one.
+abbrev pub Leads : List Entry → List Call → List Entry → Type 0
+Leads seen [] now = now ≡ seen
+Leads seen (e ∷ E) now = (others : List Entry) × Leads (Made e ∷ (others ++ seen)) E now
+
+-- what stood for the seen and the own list stands for what these calls lead to, and for the own list with these calls at its end
 pub record Moved (stands : List Entry → List Entry → Type 0) (seen own : List Entry) (E : List Call) : Type 0 where
   pub seen_now : List Entry
-  pub others : List Entry
-  pub longer : seen_now ≡ others ++ seen
+  pub leads : Leads seen E seen_now
   pub now : stands seen_now (after E own)
-  pub legal : Legal seen → Legal seen_now
 
 -- a script was served in full
 pub record Answered {Response : Type 0} (stands : List Entry → List Entry → Type 0) (seen own : List Entry) (script : Script Response) (response : Response) : Type 0 where

@@ -1,6 +1,7 @@
 -- What a front has in its parts that stands for a history.
 use Rattle.std.specs.Prelude.{◌≡◌, ℕ, Bool, false, List, [], Option, Some, None, IfSome, map, find, nat_eq}
 use Rattle.dl_values.specs.declared.cell.Cell.{Cell}
+use Rattle.rowsets.specs.RowsetView.{rowset_rows}
 use Rattle.front_defs.specs.declared.event.Event.{Event}
 use Rattle.front_defs.specs.declared.catalogue.Table.{Table}
 use Rattle.front_defs.specs.declared.txn.Txn.{Txn}
@@ -38,7 +39,7 @@ stored_for table tablets = find (λ k. nat_eq k.table table) tablets
 
 abbrev pub lists_in : Option TabletLists → List (List (List Cell))
 lists_in None = []
-lists_in (Some k) = map (λ l. l.value) k.lists
+lists_in (Some k) = map (λ l. rowset_rows l.value) k.lists
 
 abbrev pub versions_in : Option TabletLists → List ℕ
 versions_in None = []

@@ -7,10 +7,14 @@ use std::sync::ledger::Ledger;
 ///
 /// It stands for pairs of lists: the history that it has seen, and its own entries of it. A load is submitted only by
 /// the plan that a Begin gave: the caller has it from an answer of this object, or knows it of every pair.
+///
+/// What is promised of a list that was seen may rest on what is kept elsewhere: where it is vouched for, that list is legal.
 pub trait Turns {
-    ghost use Rattle.std.specs.Prelude.{List};
+    ghost use Rattle.std.specs.Prelude.{◌≡◌, Bool, true, List};
     ghost use Rattle.front_defs.specs.declared.command.Command.{Command};
     ghost use Rattle.front_defs.specs.declared.history.Entry.{Entry};
+    ghost use Rattle.front_defs.specs.Gives.{Gives};
+    ghost use Rattle.front_defs.specs.Legal.{Legal};
     ghost use Rattle.front_defs.specs.May.{May, IsBound, Carries};
     ghost use Rattle.front_defs.specs.Turn.{Turned};
 
@@ -20,9 +24,18 @@ pub trait Turns {
     /// It may be asked this.
     ghost may: { Self → Command → Type 0 };
 
-    /// Answers a command. What was seen goes on by entries of others and then by this call.
+    /// What it stands for is vouched for.
+    ghost vouched: { Self → Bool };
+
+    /// Answers a command. What was seen goes on by entries of others and then by this call. What might be asked before may
+    /// be asked afterwards, so that work which was given back can be asked again.
     fn turn<L: Ledger>(&mut self, command: Command, steps: &mut Steps<L>) -> Reply
         requires { IsBound command → may self.old command }
-        ensures turned { (seen own : List Entry) → stands self.old seen own → May own command → Turned (stands self.new) seen own command result }
-        ensures follows { (next : Command) → IsBound next → Carries next result → may self.new next };
+        ensures turned { (seen own : List Entry) → stands self.old seen own → May own command → Turned (stands self.new) steps.old steps.new seen own command result }
+        ensures follows { (next : Command) → IsBound next → Carries next result → may self.new next }
+        ensures remains { (next : Command) → IsBound next → may self.old next → may self.new next }
+        ensures gives { Gives result };
+
+    /// What was seen is legal, where it is vouched for.
+    ghost legal: { (t : Self) (seen own : List Entry) → vouched t ≡ true → stands t seen own → Legal seen };
 }

@@ -248,6 +248,7 @@ submits_now Es id rows at x k f is shaped =
     let key_is : label_key x ≡ (db_of x.table (tables_of Es), x.label) = ap (λ (z : List ℕ). (z, x.label)) (sym (home_db (table_at x.table (tables_of Es)) x.db x.schema home)) in
     let i : x.id ≡ id = found_id id (txns_of Es) x f in (
       record {
+        from = each_found (λ u. 1 ≤ u.id) same_id (txns_of Es) x k.from f;
         below = each_found (λ u. u.id < next_of Es) same_id (txns_of Es) x k.below f;
         new = sym known ∙ told;
         home = there_both (table_at x.table (tables_of Es)) (IsHome x.db x.schema) (λ b. AreRowsOf b.shape rows) (λ b. (b.schema ≡ x.schema) × AreRowsOf b.shape rows) (λ b p q. (p.1, q)) home shaped;

@@ -134,9 +134,9 @@ in_told Es id w t f is =
     match_is (txn_at id (filter (λ x. x.told) (txns_of Es))) w (λ x. x.state ≡ state.Precommitted)
     (sym (opening.found_told id (txns_of Es) (some_is (txn_at id (txns_of Es)) w (λ u. u.told ≡ true) f told)) ∙ f) is
 
-load_follows : (Gs : List Event) (s : LoadSubmitted) (o : Option Table) → There o (λ b. (b.schema ≡ s.schema) × AreRowsOf b.shape s.rows) → s.txn ≤ range_of Gs → list_any (nat_eq s.txn) (told_ids Gs) ≡ false → is_load_label s.txn s.label ≡ true → list_any (hinders s.txn (db_in o) s.label) (txns_of Gs) ≡ false → There o (FollowsLoad Gs s)
-load_follows Gs s None h within new label free = h
-load_follows Gs s (Some b) h within new label free = record { within = within; new = new; label = label; free = free; schema = sym h.0; rows = h.1 }
+load_follows : (Gs : List Event) (s : LoadSubmitted) (o : Option Table) → There o (λ b. (b.schema ≡ s.schema) × AreRowsOf b.shape s.rows) → 1 ≤ s.txn → s.txn ≤ range_of Gs → list_any (nat_eq s.txn) (told_ids Gs) ≡ false → is_load_label s.txn s.label ≡ true → list_any (hinders s.txn (db_in o) s.label) (txns_of Gs) ≡ false → There o (FollowsLoad Gs s)
+load_follows Gs s None h from within new label free = h
+load_follows Gs s (Some b) h from within new label free = record { from = from; within = within; new = new; label = label; free = free; schema = sym h.0; rows = h.1 }
 
 -- What may come follows what an opening leaves.
 pub follows_on : (Es : List Event) (e : Event) → is_told e ≡ true → Tidy Es → Happens Es e → Follows (event.Opened ∷ Es) e
@@ -145,7 +145,7 @@ follows_on Es (event.TableMade m) told t h = record { known = h.known; named = h
 follows_on Es (event.RangeDrawn r) told t h = h
 follows_on Es (event.TxnBegun b) told t h = absurd (cc)
 follows_on Es (event.LoadSubmitted s) told t h =
-    load_follows (event.Opened ∷ Es) s (table_at s.table (tables_of Es)) h.home (let k = h.below in let w = t.within in omega (arith, k, w)) h.new h.label
+    load_follows (event.Opened ∷ Es) s (table_at s.table (tables_of Es)) h.home h.from (let k = h.below in let w = t.within in omega (arith, k, w)) h.new h.label
     (told_label s.txn (db_of s.table (tables_of Es)) s.label (txns_of Es) (told_ids Es) t.known h.new h.fits)
 follows_on Es (event.TxnAborted a) told t h = in_told Es a.txn h.0 t h.1 h.2
 follows_on Es (event.LoadPublished p) told t h = match_is (due (filter (λ x. x.told) (txns_of Es))) h.0 (λ x. x.id ≡ p.txn) (due_same (txns_of Es) t.tells ∙ h.1) h.2
@@ -154,6 +154,7 @@ follows_on Es event.Opened told t h = absurd (cc)
 
 load_same : (Gs Js : List Event) (s : LoadSubmitted) (b : Table) → Agrees Gs Js → FollowsLoad Gs s b → FollowsLoad Js s b
 load_same Gs Js s b a h = record {
+  from = h.from;
   within = subst (λ (n : ℕ). s.txn ≤ n) a.range h.within;
   new = subst (λ (l : List ℕ). list_any (nat_eq s.txn) l ≡ false) a.told h.new;
   label = h.label;

@@ -57,7 +57,7 @@ good_on (e ∷ new) Es h g = good_one e (new ++ Es) h.0 (good_on new Es h.2 g)
 
 pub empty_good : Good []
 empty_good = record {
-  tidy = record { tells = tt; ascends = tt; labels = tt; below = tt; known = tt; homes = tt; labelled = tt; ids = tt; within = omega arith; spent = omega arith; numbers = tt; numbered = tt };
+  tidy = record { tells = tt; ascends = tt; labels = tt; below = tt; known = tt; homes = tt; labelled = tt; from = tt; ids = tt; within = omega arith; spent = omega arith; numbers = tt; numbered = tt };
   sound = tt;
   story = tt;
 }
@@ -250,6 +250,7 @@ told_fits id db label u h e =
 told_submits : (Es : List Event) (s : LoadSubmitted) (o : Option Table) → next_of Es ≡ range_of Es + 1 → table_at s.table (tables_of Es) ≡ o → There o (FollowsLoad Es s) → SubmitsNow Es s
 told_submits Es s None n is h = absurd h
 told_submits Es s (Some b) n is h = record {
+  from = h.from;
   below = let k = h.within in omega (arith, k, n);
   new = h.new;
   home = match_is (table_at s.table (tables_of Es)) b (λ b. (b.schema ≡ s.schema) × AreRowsOf b.shape s.rows) is (sym h.schema, h.rows);

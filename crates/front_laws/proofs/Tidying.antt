@@ -27,9 +27,10 @@ pub record Parts (ts : List Txn) (ids : List ℕ) (next : ℕ) (tables : List Ta
   pub known : Each (λ t. t.told ≡ list_any (nat_eq t.id) ids) ts
   pub homes : Each (HasHome tables) ts
   pub labelled : Each (λ t. is_load_label t.id t.label ≡ true) ts
+  pub from : Each (λ t. 1 ≤ t.id) ts
 
 pub parts_of : (Es : List Event) → Tidy Es → Parts (txns_of Es) (told_ids Es) (next_of Es) (tables_of Es)
-parts_of Es t = record { tells = t.tells; ascends = t.ascends; labels = t.labels; below = t.below; known = t.known; homes = t.homes; labelled = t.labelled }
+parts_of Es t = record { tells = t.tells; ascends = t.ascends; labels = t.labels; below = t.below; known = t.known; homes = t.homes; labelled = t.labelled; from = t.from }
 
 -- a change of state, moment, place and rows alone
 pub record Keeps (f : Txn → Txn) : Type 0 where
@@ -66,6 +67,7 @@ all_changed ts ids next tables f k p e a = record {
   known = each_map (λ t. t.told ≡ list_any (nat_eq t.id) ids) (λ t. t.told ≡ list_any (nat_eq t.id) ids) f (λ t h. k.told t ∙ h ∙ ap (λ (n : ℕ). list_any (nat_eq n) ids) (sym (k.id t))) ts p.known;
   homes = each_map (HasHome tables) (HasHome tables) f (λ t h. k.home tables t h) ts p.homes;
   labelled = each_map (λ t. is_load_label t.id t.label ≡ true) (λ t. is_load_label t.id t.label ≡ true) f (λ t h. k.labelled t h) ts p.labelled;
+  from = each_map (λ t. 1 ≤ t.id) (λ t. 1 ≤ t.id) f (λ t h. rw (k.id t) h) ts p.from;
 }
 
 -- where the change is made, it has this
@@ -106,6 +108,7 @@ filter_parts p ts ids next tables k = record {
   known = each_filter (λ t. t.told ≡ list_any (nat_eq t.id) ids) p ts k.known;
   homes = each_filter (HasHome tables) p ts k.homes;
   labelled = each_filter (λ t. is_load_label t.id t.label ≡ true) p ts k.labelled;
+  from = each_filter (λ t. 1 ≤ t.id) p ts k.from;
 }
 
 eq_self : (n : ℕ) → nat_eq n n ≡ true
@@ -122,8 +125,8 @@ home_in : (o : Option Table) (schema : ℕ) (Q : Table → Type 0) → There o (
 home_in None schema Q h = h
 home_in (Some b) schema Q h = (refl, h.0)
 
-put_parts : (ts : List Txn) (ids : List ℕ) (next last : ℕ) (tables : List Table) (s : LoadSubmitted) → Parts ts ids next tables → s.txn < next → There (table_at s.table tables) (λ b. (b.schema ≡ s.schema) × AreRowsOf b.shape s.rows) → is_load_label s.txn s.label ≡ true → Each (LabelFits s.txn (db_of s.table tables, s.label)) ts → Parts (put_txn (submitted_txn s (db_of s.table tables) last) ts) (s.txn ∷ ids) next tables
-put_parts ts ids next last tables s p lt home label fits =
+put_parts : (ts : List Txn) (ids : List ℕ) (next last : ℕ) (tables : List Table) (s : LoadSubmitted) → Parts ts ids next tables → 1 ≤ s.txn → s.txn < next → There (table_at s.table tables) (λ b. (b.schema ≡ s.schema) × AreRowsOf b.shape s.rows) → is_load_label s.txn s.label ≡ true → Each (LabelFits s.txn (db_of s.table tables, s.label)) ts → Parts (put_txn (submitted_txn s (db_of s.table tables) last) ts) (s.txn ∷ ids) next tables
+put_parts ts ids next last tables s p from lt home label fits =
     let y = submitted_txn s (db_of s.table tables) last in
     record {
       tells = each_put (λ u. Tells u.state u.told) y ts (each_imp (λ u. Tells u.state u.told) (λ u. (u.id ≡ s.txn → ⊥) → Tells u.state u.told) (λ u h _. h) ts p.tells) (told_tells s.two_phase);
@@ -133,6 +136,7 @@ put_parts ts ids next last tables s p lt home label fits =
       known = each_put (λ u. u.told ≡ list_any (nat_eq u.id) (s.txn ∷ ids)) y ts (each_imp (λ (u : Txn). u.told ≡ list_any (nat_eq u.id) ids) (λ (u : Txn). (u.id ≡ s.txn → ⊥) → u.told ≡ list_any (nat_eq u.id) (s.txn ∷ ids)) (λ (u : Txn) h n. rw (eq_apart u.id s.txn n) h) ts p.known) (rw (eq_self s.txn) refl);
       homes = each_put (HasHome tables) y ts (each_imp (HasHome tables) (λ u. (u.id ≡ s.txn → ⊥) → HasHome tables u) (λ u h _. h) ts p.homes) (home_in (table_at s.table tables) s.schema (λ b. AreRowsOf b.shape s.rows) home);
       labelled = each_put (λ t. is_load_label t.id t.label ≡ true) y ts (each_imp (λ t. is_load_label t.id t.label ≡ true) (λ t. (t.id ≡ s.txn → ⊥) → is_load_label t.id t.label ≡ true) (λ u h _. h) ts p.labelled) label;
+      from = each_put (λ u. 1 ≤ u.id) y ts (each_imp (λ u. 1 ≤ u.id) (λ u. (u.id ≡ s.txn → ⊥) → 1 ≤ u.id) (λ u h _. h) ts p.from) from;
     }
 
 -- a number that is above all that were told
@@ -141,7 +145,7 @@ none_told id [] e = refl
 none_told id (i ∷ is) e = let n : nat_eq id i ≡ false = let h = e.0 in grind (arith, nat_tests) in rw n (none_told id is e.1)
 
 tidy_of : (e : Event) (Es : List Event) → next_of (e ∷ Es) ≡ next_of Es → range_of (e ∷ Es) ≡ range_of Es → told_ids (e ∷ Es) ≡ told_ids Es → last_begun (e ∷ Es) ≡ last_begun Es → tables_of (e ∷ Es) ≡ tables_of Es → last_table_of (e ∷ Es) ≡ last_table_of Es → Tidy Es → Parts (txns_of (e ∷ Es)) (told_ids Es) (next_of Es) (tables_of (e ∷ Es)) → Tidy (e ∷ Es)
-tidy_of e Es n r i l b m t p = record { spent = rw (n, l) t.spent; numbers = rw b t.numbers; numbered = rw (b, m) t.numbered; tells = p.tells; ascends = p.ascends; labels = p.labels; below = rw n p.below; known = rw i p.known; homes = p.homes; labelled = p.labelled; ids = rw (n, i) t.ids; within = let w = t.within in omega (arith, n, r, w) }
+tidy_of e Es n r i l b m t p = record { spent = rw (n, l) t.spent; numbers = rw b t.numbers; numbered = rw (b, m) t.numbered; tells = p.tells; ascends = p.ascends; labels = p.labels; below = rw n p.below; known = rw i p.known; homes = p.homes; labelled = p.labelled; from = p.from; ids = rw (n, i) t.ids; within = let w = t.within in omega (arith, n, r, w) }
 
 due_is_cons : (p : Txn → Bool) (x y : Txn) (o : Option Txn) (b : Bool) → p x ≡ b → (o ≡ Some y → p y ≡ true) → cond b (Some x) o ≡ Some y → p y ≡ true
 due_is_cons p x y o true is k e = let i : x ≡ y = cc in subst (λ z. p z ≡ true) i is
@@ -197,6 +201,7 @@ tidy_on Es (event.TableMade m) t h =
       below = t.below;
       known = t.known;
       labelled = t.labelled;
+      from = t.from;
       ids = t.ids;
       within = t.within;
       spent = t.spent;
@@ -211,6 +216,7 @@ tidy_on Es (event.RangeDrawn r) t h = record {
   known = t.known;
   homes = t.homes;
   labelled = t.labelled;
+  from = t.from;
   numbers = t.numbers;
   numbered = t.numbered;
   spent = let w = t.within in let x = t.spent in omega (arith, h, w, x);
@@ -228,6 +234,7 @@ tidy_on Es (event.TxnBegun b) t h =
       known = each_snoc (λ u. u.told ≡ list_any (nat_eq u.id) (told_ids Es)) (txns_of Es) y t.known (sym (none_told b.txn (told_ids Es) h.unspent));
       homes = each_snoc (HasHome (tables_of Es)) (txns_of Es) y t.homes h.home;
       labelled = each_snoc (λ u. is_load_label u.id u.label ≡ true) (txns_of Es) y t.labelled h.label;
+      from = each_snoc (λ u. 1 ≤ u.id) (txns_of Es) y t.from (let k = h.fresh in omega (arith, k));
       ids = each_imp (λ i. i < b.txn) (λ i. i < b.txn + 1) (λ i k. omega (arith, k)) (told_ids Es) h.unspent;
       within = let k = h.within in omega (arith, k);
       spent = omega arith;
@@ -235,8 +242,8 @@ tidy_on Es (event.TxnBegun b) t h =
       numbered = t.numbered;
     }
 tidy_on Es (event.LoadSubmitted s) t h =
-    let p = put_parts (txns_of Es) (told_ids Es) (next_of Es) (places_of Es) (tables_of Es) s (parts_of Es t) h.below h.home h.label h.fits in
-    record { tells = p.tells; ascends = p.ascends; labels = p.labels; below = p.below; known = p.known; homes = p.homes; labelled = p.labelled; ids = (h.below, t.ids); within = t.within; spent = t.spent; numbers = t.numbers; numbered = t.numbered }
+    let p = put_parts (txns_of Es) (told_ids Es) (next_of Es) (places_of Es) (tables_of Es) s (parts_of Es t) h.from h.below h.home h.label h.fits in
+    record { tells = p.tells; ascends = p.ascends; labels = p.labels; below = p.below; known = p.known; homes = p.homes; labelled = p.labelled; from = p.from; ids = (h.below, t.ids); within = t.within; spent = t.spent; numbers = t.numbers; numbered = t.numbered }
 tidy_on Es (event.TxnAborted a) t h = tidy_of (event.TxnAborted a) Es refl refl refl refl refl refl t (abort_parts (txns_of Es) (told_ids Es) (next_of Es) (tables_of Es) a.txn a.at (parts_of Es t))
 tidy_on Es (event.LoadPublished p) t h =
     let found = subst (λ (n : ℕ). txn_at n (txns_of Es) ≡ Some h.0) h.2 (due_found Es h.0 t h.1) in
@@ -251,6 +258,7 @@ tidy_on Es event.Opened t h =
       known = p.known;
       homes = p.homes;
       labelled = p.labelled;
+      from = p.from;
       below = each_imp (λ u. u.id < next_of Es) (λ u. u.id < range_of Es + 1) (λ u k. let w = t.within in omega (arith, k, w)) (filter (λ u. u.told) (txns_of Es)) p.below;
       numbers = t.numbers;
       numbered = t.numbered;

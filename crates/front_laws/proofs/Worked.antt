@@ -1,5 +1,6 @@
 -- The worked histories are legal.
 use Rattle.std.proofs.Common.{◌≡◌, ℕ, true, false, refl, sym, ◌∙◌, ap, map, ◌⊎◌, inl, inr, List, [], ◌∷◌, IfSome, arith}
+use Rattle.rowsets.specs.RowsetView.{rowset_rows}
 use Rattle.dl_values.specs.declared.cell.Cell.{Cell}
 use Rattle.schema_models.specs.ShapeView.{ShapeView}
 use Rattle.schema_models.specs.Folds.{fold_of}
@@ -70,7 +71,7 @@ faulted_legal built is = (
 
 -- what a snapshot of the table shows
 shows_rows : (b : Table) (base shown : List (List Cell)) (cost : ℕ) (r : Reply) → Shows b base cost r → b.shape ≡ shape_by def → base ≡ shown → ShowsRows shown r
-shows_rows b base shown cost (reply.Snap s) h shape is = ap (λ (x : ShapeView). fold_of x (joined (map (λ l. l.value) s.lists))) (sym shape) ∙ h.2.rows ∙ is
+shows_rows b base shown cost (reply.Snap s) h shape is = ap (λ (x : ShapeView). fold_of x (joined (map (λ l. rowset_rows l.value) s.lists))) (sym shape) ∙ h.2.rows ∙ is
 shows_rows b base shown cost _ h shape is = absurd h
 
 pub reads : (b : Table) (base shown : List (List Cell)) (cost : ℕ) → b.shape ≡ shape_by def → base ≡ shown → (r : Reply) → (r ≡ reply.NoMemory) ⊎ Shows b base cost r → (r ≡ reply.NoMemory) ⊎ ShowsRows shown r

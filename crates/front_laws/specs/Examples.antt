@@ -1,6 +1,7 @@
 -- Worked histories of one table, the newest entry first: what is asked and what is answered.
 use Rattle.std.specs.Prelude.{◌≡◌, ℕ, Bool, true, false, List, [], ◌∷◌, Some, None, map, pos, ◌⊎◌}
 use Rattle.dl_values.specs.declared.cell.Cell.{Cell}
+use Rattle.rowsets.specs.RowsetView.{rowset_rows}
 use Rattle.dl_values.specs.declared.cell.Cell.TheVariants as cell
 use Rattle.dl_values.specs.declared.col_type.ColType.TheVariants as kind
 use Rattle.schema_models.specs.declared.model.Model.TheVariants as model
@@ -150,7 +151,7 @@ select = command.Snapshot d t all_of_t
 
 -- a snapshot whose lists fold to these rows
 abbrev pub ShowsRows : List (List Cell) → Reply → Type 0
-ShowsRows shown (reply.Snap s) = fold_of (shape_by def) (joined (map (λ l. l.value) s.lists)) ≡ shown
+ShowsRows shown (reply.Snap s) = fold_of (shape_by def) (joined (map (λ l. rowset_rows l.value) s.lists)) ≡ shown
 ShowsRows shown _ = ⊥
 
 -- a snapshot has these rows, but for want of memory

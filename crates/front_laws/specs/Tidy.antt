@@ -67,6 +67,7 @@ pub record Tidy (Es : List Event) : Type 0 where
   pub known : Each (λ t. t.told ≡ list_any (nat_eq t.id) (told_ids Es)) (txns_of Es)
   pub homes : Each (HasHome (tables_of Es)) (txns_of Es)
   pub labelled : Each (λ t. is_load_label t.id t.label ≡ true) (txns_of Es)
+  pub from : Each (λ t. 1 ≤ t.id) (txns_of Es)
   pub ids : Each (λ i. i < next_of Es) (told_ids Es)
   pub within : next_of Es ≤ range_of Es + 1
   pub spent : last_begun Es < next_of Es
@@ -89,6 +90,7 @@ pub record BeginsNow (Es : List Event) (b : TxnBegun) : Type 0 where
 
 -- a load of a live table that is submitted for the first time
 pub record SubmitsNow (Es : List Event) (s : LoadSubmitted) : Type 0 where
+  pub from : 1 ≤ s.txn
   pub below : s.txn < next_of Es
   pub new : list_any (nat_eq s.txn) (told_ids Es) ≡ false
   pub home : There (table_at s.table (tables_of Es)) (λ b. (b.schema ≡ s.schema) × AreRowsOf b.shape s.rows)
