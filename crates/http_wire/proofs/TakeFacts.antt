@@ -8,6 +8,7 @@ use Rattle.httparse.specs.Grammar.{RequestHead, print_request}
 use Rattle.http_wire.specs.declared.error.WireError.{WireError}
 use Rattle.http_wire.specs.declared.error.WireError.TheVariants.{BadHead, BadLength, BodyTooLong, CutBody, BadChunk, ReadFault, NoMemory}
 use Rattle.http_wire.specs.declared.head.Head.{Head}
+use Rattle.http_wire.specs.Bodies.{IsSized}
 use Rattle.http_wire.specs.Heads.{BeginsWith, HandsOut, HeadFault, IsFoundAt, IsHeadOf, KeepsBack, MakeFault, TakesHead}
 use Rattle.http_wire.specs.Reader.{Reader, input, place_after}
 
@@ -79,3 +80,7 @@ pub stays-back : (told : Option (List ℕ)) (old : Reader) (left : Option (List 
     → old.at ≡ at → Keeps told (prepend_known old.pending left) → KeepsBack old spans r error new → Keeps told (input new left) × (new.at ≡ at)
 stays-back told old left spans r error new at same kept back =
     subst (λ (n : Reader). Keeps told (input n left) × (n.at ≡ at)) (sym back.same) (kept, same)
+
+-- a head that is handed out has a number for the length of its body
+pub sized-out : (old : Reader) (spans : List HeaderSpan) (r : RequestSpans) (head : Head) (new : Reader) → HandsOut old spans r head new → IsSized head.body
+sized-out old spans r head new out = subst (λ (h : Head). IsSized h.body) (sym out.is.2) tt

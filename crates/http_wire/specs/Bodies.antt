@@ -8,6 +8,11 @@ use Rattle.http_wire.specs.declared.head.BodyLength.TheVariants.{Fixed, Chunked}
 use Rattle.http_wire.specs.declared.head.Head.{Head}
 use Rattle.http_wire.specs.Taking.{TakesLess}
 
+-- the length is a number
+abbrev pub IsSized : BodyLength → Type 0
+IsSized (Fixed n) = Unit {0}
+IsSized Chunked = ⊥
+
 -- the length is above the limit
 abbrev pub IsTooLong : BodyLength → Type 0
 IsTooLong (Fixed n) = 16777216 < n

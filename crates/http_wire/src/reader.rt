@@ -5,7 +5,7 @@ ghost use Rattle.dl_outside.specs.Faults.{HasRisen};
 ghost use Rattle.dl_outside.specs.Reading.{ConsumesSome};
 ghost use Rattle.httparse.specs.Grammar.{RequestHead};
 ghost use Rattle.httparse.specs.Spans.{IsRequestAt, IsRequestWithin};
-ghost use Rattle.http_wire.specs.Bodies.{BodyFault, IsBodyOf, TakesPart};
+ghost use Rattle.http_wire.specs.Bodies.{BodyFault, IsBodyOf, IsSized, TakesPart};
 ghost use Rattle.http_wire.specs.Heads.{HandsOut, HasNoHead, HeadFault, IsFoundAt, KeepsBack, TakesHead};
 ghost use Rattle.http_wire.specs.Reader.{Reader, StaysAt, input, place_after};
 ghost use Rattle.http_wire.specs.declared.head.BodyLength.TheVariants.{Fixed};
@@ -64,6 +64,7 @@ impl HttpReader {
         ensures head { IfOk result (λ found. IfSome found (λ head. IfSome (input self.old (S.left source.old)) (λ text.
             (rest : List ℕ) × TakesHead self.old.at text head rest × (input self.new (S.left source.new) ≡ Some rest)
             × (self.new.at ≡ place_after self.old.at (length text - length rest))))) }
+        ensures sized { IfOk result (λ found. IfSome found (λ head. IsSized head.body)) }
         ensures none { result ≡ Ok None → IfSome (input self.old (S.left source.old)) (λ text. text ≡ []) }
         ensures fault { IfErr result (HeadFault self.old.at (input self.old (S.left source.old)) (S.faults source.old) (S.faults source.new)) }
         // Where a read failed, no head stands in the bytes that were read.
@@ -130,6 +131,7 @@ impl HttpReader {
         ensures head { IfOk result (λ head. IfSome (input self.old (S.left source.old)) (λ text.
             (rest : List ℕ) × TakesHead self.old.at text head rest × (input self.new (S.left source.new) ≡ Some rest)
             × (self.new.at ≡ place_after self.old.at (length text - length rest)))) }
+        ensures sized { IfOk result (λ head. IsSized head.body) }
         ensures fault { IfErr result (HeadFault self.old.at (input self.old (S.left source.old)) (S.faults source.old) (S.faults source.new)) }
         ensures unread { result ≡ Err WireError.ReadFault → HasNoHead self.new.pending }
         ensures stays { OnErr result (StaysAt self.old (S.left source.old) self.new (S.left source.new)) }
