@@ -1,8 +1,11 @@
-//! Rows by column: the marks of a shape that stored rows keep.
+//! Rows by column: blocks of the cells of stored rows, with the marks of their shape.
 #![tactic(auto)]
 
+mod block;
+mod blocks;
 mod marks;
 mod row_test;
 
+pub use blocks::Blocks;
 pub use marks::{ColumnMark, Marks};
 pub use row_test::are_of_shape;

@@ -1,10 +1,10 @@
 // Folded rows that do not change any more.
 ghost use Rattle.std.specs.Prelude.{◌≡◌, ◌↔◌, IfOk, IsTrue};
 ghost use Rattle.std.specs.List.{AllByRecursion};
-ghost use Rattle.rowsets.specs.RowsetView.{IsMadeFor, IsRowsetOf, IsSortedFor, rowset_rows};
+ghost use Rattle.rowsets.specs.RowsetView.{IsMadeFor, IsRowsetOf, IsSortedFor};
 ghost use Rattle.schema_models.specs.RowRules.{IsOfShape};
 
-use columnar::Marks;
+use columnar::Blocks;
 use dl_outside::Steps;
 use dl_values::{NoMemory, RowView, Rows};
 use row_fold::{SortedRows, fold_rows};
@@ -18,8 +18,7 @@ use std::sync::ledger::Ledger;
 /// documentation, "Rowset"). It knows no version.
 #[derive(Debug, Drop)]
 pub struct Rowset {
-    marks: Marks,
-    rows: Rows,
+    blocks: Blocks,
 }
 
 impl Model for Rowset {
@@ -27,9 +26,9 @@ impl Model for Rowset {
 
     ghost Value = { RowsetView };
 
-    ghost view = { λ r. record { marks = r.marks; rows = r.rows } };
+    ghost view = { λ r. record { marks = r.blocks.marks; rows = r.blocks.rows } };
 
-    ghost invariant = { λ r. IsSound (record { marks = r.marks; rows = r.rows }) };
+    ghost invariant = { λ r. IsSound (record { marks = r.blocks.marks; rows = r.blocks.rows }) };
 }
 
 impl Rowset {
@@ -42,12 +41,8 @@ impl Rowset {
         laws::rows_of_a_shape_stay_so();
         laws::folds_are_determined();
         let folded = fold_rows(alloc, shape, rows)?;
-        let marks = Marks::of(alloc, shape)?;
-        let rowset = Rowset {
-            marks,
-            rows: folded,
-        };
-        Ok(Arc::new(alloc, rowset)?)
+        let blocks = Blocks::from_rows(alloc, shape, folded)?;
+        Ok(Arc::new(alloc, Rowset { blocks })?)
     }
 
     /// Whether the shape that it was built with has the model, the number of keys, the column types and the nullable marks
@@ -56,14 +51,7 @@ impl Rowset {
         ensures made { IsTrue result ↔ IsMadeFor shape.now self.now }
         ensures sorted { IsTrue result → IsSortedFor shape.now self.now }
     {
-        self.marks.is_of(shape)
-    }
-
-    /// The rows in their order. It goes once no crate above reads a rowset as a list in memory: they take `SortedRows`.
-    pub fn rows(&self) -> &Rows
-        ensures { result.now ≡ rowset_rows self.now }
-    {
-        &self.rows
+        self.blocks.is_of(shape)
     }
 }
 
@@ -73,10 +61,10 @@ impl SortedRows for Rowset {
     ghost rows = { rowset_rows };
 
     fn len(&self) -> usize {
-        self.rows.len()
+        self.blocks.len()
     }
 
     fn row<L: Ledger>(&self, place: usize, steps: &mut Steps<L>) -> RowView<'_> {
-        SortedRows::row(&self.rows, place, steps)
+        self.blocks.row(place, steps)
     }
 }

@@ -1,0 +1,87 @@
+// One block: the cells of up to 1,024 rows, column after column.
+ghost use Rattle.std.specs.Prelude.{◌≡◌, ◌<◌, ◌≤◌, ◌+◌, ◌^◌, ◌++◌, [], length, take, drop, slice_index_or, IfOk, OnOk};
+ghost use Rattle.std.specs.List.{AllByRecursion};
+ghost use Rattle.columnar.specs.Blocks.{column_of};
+
+use dl_values::{Cell, NoMemory, RowView, Rows, copy_cell};
+use std::alloc::Global;
+use std::marker::Model;
+
+// How many rows a block has that is not the last.
+pub const BLOCK_ROWS: usize = 1024;
+
+// The rows of a block, which contracts see as the list of them.
+#[derive(Debug, Drop)]
+pub struct Block {
+    width: usize,
+    count: usize,
+    cells: Vec<Cell>,
+}
+
+impl Model for Block {
+    ghost use Rattle.std.specs.Prelude.{List};
+    ghost use Rattle.columnar.specs.Blocks.{IsBlock, across};
+    ghost use Rattle.dl_values.specs.declared.cell.Cell.{Cell};
+
+    ghost Value = { List (List Cell) };
+
+    ghost view = { λ b. across b.width b.count b.cells.items };
+
+    ghost invariant = { λ b. IsBlock b.width b.count b.cells.items };
+}
+
+// Adds the cells of one column of rows that follow each other.
+fn add_column(
+    alloc: Global,
+    cells: &mut Vec<Cell>,
+    rows: &Rows,
+    start: usize,
+    count: usize,
+    column: usize,
+) -> Result<(), NoMemory>
+    requires within { start + count ≤ length rows.now }
+    requires fits { start + count < 2 ^ 64 }
+    requires wide { AllByRecursion (λ r. column < length r) rows.now }
+    ensures { OnOk result (cells.new.items ≡ cells.old.items ++ column_of column (take count (drop start rows.now))) }
+{
+    for i in 0..count {
+        let row = rows.row(start + i);
+        cells.push(copy_cell(alloc, &row[column])?)?;
+    }
+    Ok(())
+}
+
+impl Block {
+    // The block of rows that follow each other, all of one width.
+    pub fn of(
+        alloc: Global,
+        rows: &Rows,
+        start: usize,
+        count: usize,
+        width: usize,
+    ) -> Result<Block, NoMemory>
+        requires some { 0 < count }
+        requires within { start + count ≤ length rows.now }
+        requires fits { start + count < 2 ^ 64 }
+        requires wide { AllByRecursion (λ r. width ≡ length r) rows.now }
+        ensures { IfOk result (λ b. b ≡ take count (drop start rows.now)) }
+    {
+        let mut cells = Vec::with_capacity(alloc, count.saturating_mul(width))?;
+        for column in 0..width {
+            add_column(alloc, &mut cells, rows, start, count, column)?;
+        }
+        Ok(Block {
+            width,
+            count,
+            cells,
+        })
+    }
+
+    // The row at a place of the block.
+    pub fn row(&self, at: usize) -> RowView<'_>
+        requires { at < length self.now }
+        ensures { result ≡ slice_index_or self.now at [] }
+    {
+        RowView::across(self.cells.as_slice(), self.count, at)
+    }
+}
