@@ -5,7 +5,7 @@ use Rattle.std.proofs.Math.Seq.{drop-append_seam, take-append_seam}
 use Rattle.sql_tokens.specs.declared.token.Token.{Token}
 use Rattle.sql_tokens.specs.Tokens.{tokens_of}
 use Rattle.sql_text.specs.declared.stmt.Stmt.{Stmt}
-use Rattle.sql_text.specs.declared.sql_error.SqlFault.{SqlFault}
+use Rattle.sql_text.specs.declared.sql_error.SqlKind.{SqlKind}
 use Rattle.sql_grammar.specs.declared.stop.Stop.{Stop}
 use Rattle.sql_grammar.specs.declared.stop.Stop.TheVariants as stop
 use Rattle.sql_grammar.specs.Reading.{Fails}
@@ -53,8 +53,8 @@ within tokens n e =
     let m : n ≡ length f.rest = f.left in
     omega arith
 
-pub is_fault : (text : List ℕ) (tokens : List Token) (n : ℕ) (fault : SqlFault) → tokens ≡ tokens_of text → whole_at tokens ≡ Err n → fault.at ≡ place text (drop (length tokens - n) tokens) → IsKind (take (length tokens - n) tokens) (drop (length tokens - n) tokens) fault.kind → IsFault text fault
-is_fault text tokens n fault t e at kind =
+pub is_fault : (text : List ℕ) (tokens : List Token) (n at : ℕ) (kind : SqlKind) → tokens ≡ tokens_of text → whole_at tokens ≡ Err n → at ≡ place text (drop (length tokens - n) tokens) → IsKind (take (length tokens - n) tokens) (drop (length tokens - n) tokens) kind → IsFault text at kind
+is_fault text tokens n at kind t e stands is_so =
     let f = fault_at tokens n e in
     let count : length tokens - n ≡ length f.front = counted tokens f.front f.rest n f.is.parts f.left in
     let front : take (length tokens - n) tokens ≡ f.front = ap (λ (i : ℕ). take i tokens) count ∙ ap (λ (l : List Token). take (length f.front) l) f.is.parts ∙ take-append_seam f.front f.rest in
@@ -63,8 +63,8 @@ is_fault text tokens n fault t e at kind =
       front = f.front;
       rest = f.rest;
       first = subst (λ (l : List Token). IsFaultAt Statement l f.front f.rest) t f.is;
-      at = at ∙ ap (λ (l : List Token). place text l) rest;
-      kind = subst (λ (l : List Token). IsKind f.front l fault.kind) rest (subst (λ (l : List Token). IsKind l (drop (length tokens - n) tokens) fault.kind) front kind);
+      stands = stands ∙ ap (λ (l : List Token). place text l) rest;
+      is_so = subst (λ (l : List Token). IsKind f.front l kind) rest (subst (λ (l : List Token). IsKind l (drop (length tokens - n) tokens) kind) front is_so);
     }
   where
     counted : (all a b : List Token) (n : ℕ) → all ≡ a ++ b → n ≡ length b → length all - n ≡ length a

@@ -27,7 +27,7 @@ pub use parse::parse_stmt;
 pub use part::{Part, PartBounds};
 pub use plain_def::{PlainColumn, PlainDef};
 pub use query::{AggFn, Check, CompareOp, Filter, Item, Literal, OrderBy, OrderKey, Query};
-pub use sql_error::{SqlError, SqlFault, SqlFaultKind};
+pub use sql_error::{SqlError, SqlKind};
 pub use stmt::{AdminTask, AlterKind, Stmt, TransactionKey};
 pub use table_def::{ColumnText, ColumnType, DefaultText, Property, Ranges, TableDef};
 

@@ -1,12 +1,12 @@
 // Reading the statement of a text.
-ghost use Rattle.std.specs.Prelude.{◌≡◌, ◌≤◌, ◌<◌, ◌-◌, ℤ, negsuc, ◌⊎◌, length, take, drop, Ok, Err, IfOk};
+ghost use Rattle.std.specs.Prelude.{◌≡◌, ℕ, ◌≤◌, ◌<◌, ◌-◌, ℤ, negsuc, ◌⊎◌, length, take, drop, Ok, Err, IfOk};
 ghost use Rattle.sql_text.specs.declared.stmt.Stmt.{Stmt};
-ghost use Rattle.sql_text.specs.declared.sql_error.SqlFault.{SqlFault};
+ghost use Rattle.sql_text.specs.declared.sql_error.SqlKind.{SqlKind};
 ghost use Rattle.sql_text.specs.declared.sql_error.SqlError.TheVariants as error;
 ghost use Rattle.sql_text.specs.Statements.{Spells};
 ghost use Rattle.sql_text.specs.Faults.{TakesZero, Tells, IsNegativeKind, IsKind, kind_alone, place, IsFault};
 
-use crate::sql_error::{SqlError, SqlFault, SqlFaultKind};
+use crate::sql_error::{SqlError, SqlKind};
 use crate::statement::whole;
 use crate::stmt::Stmt;
 use dl_values::NoMemory;
@@ -15,14 +15,14 @@ use sql_tokens::{Token, TokenKind, tokens};
 use std::alloc::Global;
 
 // What is wrong with a token that is out of place, or none where a negative integer is.
-fn kind_alone(token: &TokenKind) -> Option<SqlFaultKind>
+fn kind_alone(token: &TokenKind) -> Option<SqlKind>
     ensures { result ≡ kind_alone token.now }
 {
     match token {
-        TokenKind::Stray => Some(SqlFaultKind::Lex),
-        TokenKind::Beyond => Some(SqlFaultKind::Range),
+        TokenKind::Stray => Some(SqlKind::Lex),
+        TokenKind::Beyond => Some(SqlKind::Range),
         TokenKind::Int(value) if *value < 0 => None,
-        _ => Some(SqlFaultKind::Syntax),
+        _ => Some(SqlKind::Syntax),
     }
 }
 
@@ -44,35 +44,35 @@ fn takes_zero(alloc: Global, tokens: Vec<Token>, place: usize) -> Result<bool, N
 }
 
 // What is wrong with the token at a place, a negative integer.
-fn negative_kind(alloc: Global, tokens: Vec<Token>, place: usize) -> Result<SqlFaultKind, NoMemory>
+fn negative_kind(alloc: Global, tokens: Vec<Token>, place: usize) -> Result<SqlKind, NoMemory>
     ensures { IfOk result (λ kind. IsNegativeKind (take place tokens.items) kind) }
 {
     if takes_zero(alloc, tokens, place)? {
-        return Ok(SqlFaultKind::Range);
+        return Ok(SqlKind::Range);
     }
-    Ok(SqlFaultKind::Syntax)
+    Ok(SqlKind::Syntax)
 }
 
-// The fault of a text at whose first wrong token so many are left.
-fn fault(alloc: Global, text: &str, tokens: Vec<Token>, left: usize) -> Result<SqlFault, NoMemory>
+// The fault of a text at whose first wrong token so many are left, unless memory runs out.
+fn fault(alloc: Global, text: &str, tokens: Vec<Token>, left: usize) -> SqlError
     requires { left ≤ length tokens.items }
-    ensures at { IfOk result (λ f. f.at ≡ place text.now (drop (length tokens.items - left) tokens.items)) }
-    ensures kind { IfOk result (λ f. IsKind (take (length tokens.items - left) tokens.items) (drop (length tokens.items - left) tokens.items) f.kind) }
+    ensures at { (at : ℕ) (kind : SqlKind) → result ≡ error.SqlFault at kind → at ≡ place text.now (drop (length tokens.items - left) tokens.items) }
+    ensures kind { (at : ℕ) (kind : SqlKind) → result ≡ error.SqlFault at kind → IsKind (take (length tokens.items - left) tokens.items) (drop (length tokens.items - left) tokens.items) kind }
 {
     let front = tokens.len() - left;
     let Some(token) = tokens.get(front) else {
-        return Ok(SqlFault {
+        return SqlError::SqlFault {
             at: text.len() as u64,
-            kind: SqlFaultKind::Syntax,
-        });
+            kind: SqlKind::Syntax,
+        };
     };
     let at = token.at;
-    match kind_alone(&token.kind) {
-        Some(kind) => Ok(SqlFault { at, kind }),
-        None => {
-            let kind = negative_kind(alloc, tokens, front)?;
-            Ok(SqlFault { at, kind })
-        }
+    if let Some(kind) = kind_alone(&token.kind) {
+        return SqlError::SqlFault { at, kind };
+    }
+    match negative_kind(alloc, tokens, front) {
+        Ok(kind) => SqlError::SqlFault { at, kind },
+        Err(NoMemory) => SqlError::NoMemory,
     }
 }
 
@@ -83,7 +83,7 @@ pub fn parse_stmt(alloc: Global, text: &str) -> Result<Stmt, SqlError>
     // What the text spells is read, unless memory runs out.
     ensures only { (s : Stmt) → Spells s text.now → (result ≡ Ok s) ⊎ (result ≡ Err error.NoMemory) }
     // A fault is the first one of the text.
-    ensures fault { (f : SqlFault) → result ≡ Err (error.Fault f) → IsFault text.now f }
+    ensures fault { (at : ℕ) (kind : SqlKind) → result ≡ Err (error.SqlFault at kind) → IsFault text.now at kind }
 {
     let Ok(tokens) = tokens(alloc, text) else {
         return Err(SqlError::NoMemory);
@@ -91,9 +91,6 @@ pub fn parse_stmt(alloc: Global, text: &str) -> Result<Stmt, SqlError>
     match whole(alloc, tokens.as_slice()) {
         Ok(stmt) => Ok(stmt),
         Err(Stop::Memory) => Err(SqlError::NoMemory),
-        Err(Stop::Left(left)) => match fault(alloc, text, tokens.into_vec(), left) {
-            Ok(fault) => Err(SqlError::Fault(fault)),
-            Err(NoMemory) => Err(SqlError::NoMemory),
-        },
+        Err(Stop::Left(left)) => Err(fault(alloc, text, tokens.into_vec(), left)),
     }
 }

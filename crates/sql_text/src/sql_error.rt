@@ -1,24 +1,20 @@
 // Why a text is no statement.
+use thiserror::Error;
 
-/// What reading a statement may end with.
-#[derive(Clone, Copy, Debug, PartialEq, Eq)]
+/// What reading a statement may end with. Its text is the one that a refused statement is answered with.
+#[derive(Clone, Copy, Debug, PartialEq, Eq, Error)]
 pub enum SqlError {
+    /// The first fault of the text. It stands at the offset in bytes of the first token that no statement has after the
+    /// tokens before it, or at the length of the text where the tokens run out.
+    #[error("SqlFault at={at} kind={kind:?}")]
+    SqlFault { at: u64, kind: SqlKind },
+    #[error("NoMemory")]
     NoMemory,
-    Fault(SqlFault),
 }
 
-/// The first fault of a text.
+/// What is wrong with the token at a fault.
 #[derive(Clone, Copy, Debug, PartialEq, Eq)]
-pub struct SqlFault {
-    /// The offset in bytes of the first token that no statement has after the tokens before it, or the length of the
-    /// text where the tokens run out.
-    pub at: u64,
-    pub kind: SqlFaultKind,
-}
-
-/// What is wrong with that token.
-#[derive(Clone, Copy, Debug, PartialEq, Eq)]
-pub enum SqlFaultKind {
+pub enum SqlKind {
     /// No token begins there.
     Lex,
     /// An integer beyond 64 signed bits, or a negative one where only one from 0 on may stand.

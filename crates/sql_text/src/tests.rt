@@ -1,17 +1,17 @@
 // Statements and faults as tables.
 use crate::{
     AdminTask, AggFn, AlterKind, Check, Clause, ColumnPlace, ColumnType, CompareOp, DefaultText,
-    Item, Literal, OrderBy, PartBounds, SqlError, SqlFault, SqlFaultKind, Stmt, TransactionKey,
-    parse_stmt,
+    Filter, Item, Literal, OrderBy, OrderKey, PartBounds, Query, SqlError, SqlKind, Stmt, TableDef,
+    TransactionKey, parse_stmt,
 };
-use dl_values::AggKind;
+use dl_values::{AggKind, Name};
 use schema_models::Model;
 use sql_tokens::tokens;
 use std::alloc::Global;
 use std::test::Fail;
 
 // One of each alternative, with its optional parts and without.
-const STATEMENTS: [&str; 62] = [
+const STATEMENTS: &[&str] = &[
     "CREATE DATABASE d",
     "create Database If Not Exists `d`;",
     "CREATE TABLE t (k INT) DISTRIBUTED BY HASH(k)",
@@ -74,301 +74,397 @@ const STATEMENTS: [&str; 62] = [
     "CREATE DATABASE `é`",
     "SELECT k FROM t LIMIT 9223372036854775807",
     "SELECT k FROM t WHERE k = -9223372036854775808",
+    // Reserved words as names, and words that are not reserved.
+    "DROP TABLE `ADD`",
+    "DROP TABLE `ALTER`",
+    "DROP TABLE `AND`",
+    "DROP TABLE `ASC`",
+    "DROP TABLE `BY`",
+    "DROP TABLE `COLUMN`",
+    "DROP TABLE `CREATE`",
+    "DROP TABLE `DATABASE`",
+    "DROP TABLE `DEFAULT`",
+    "DROP TABLE `DESC`",
+    "DROP TABLE `DISTRIBUTED`",
+    "DROP TABLE `DROP`",
+    "DROP TABLE `EXISTS`",
+    "DROP TABLE `FROM`",
+    "DROP TABLE `GROUP`",
+    "DROP TABLE `IS`",
+    "DROP TABLE `KEY`",
+    "DROP TABLE `LESS`",
+    "DROP TABLE `LIMIT`",
+    "DROP TABLE `MODIFY`",
+    "DROP TABLE `NOT`",
+    "DROP TABLE `NULL`",
+    "DROP TABLE `ORDER`",
+    "DROP TABLE `PARTITION`",
+    "DROP TABLE `PROPERTIES`",
+    "DROP TABLE `RANGE`",
+    "DROP TABLE `SELECT`",
+    "DROP TABLE `SHOW`",
+    "DROP TABLE `TABLE`",
+    "DROP TABLE `THAN`",
+    "DROP TABLE `VALUES`",
+    "DROP TABLE `WHERE`",
+    "DROP TABLE `IF`",
+    "DROP TABLE rollup",
+    "DROP TABLE maxvalue",
+    "DROP TABLE hash",
+    "DROP TABLE all",
+    "DROP TABLE sum",
+    "DROP TABLE tables",
+    "DROP TABLE engine",
+    "DROP TABLE first",
+    "DROP TABLE int",
+    "DROP TABLE admin",
 ];
 
-// The fault of a text, or none where it is a statement.
-fn fault_of(alloc: Global, text: &str) -> Result<Option<SqlFault>, Fail> {
-    match parse_stmt(alloc, text) {
-        Ok(_) => Ok(None),
-        Err(SqlError::Fault(fault)) => Ok(Some(fault)),
-        Err(SqlError::NoMemory) => Err("out of memory".into()),
-    }
+// Texts, the places of their faults and what is wrong there.
+const FAULTS: &[(&str, u64, SqlKind)] = &[
+    ("SELECT k FROM t EXTRA", 16, SqlKind::Syntax),
+    ("", 0, SqlKind::Syntax),
+    (" ", 1, SqlKind::Syntax),
+    (";", 0, SqlKind::Syntax),
+    ("SELECT", 6, SqlKind::Syntax),
+    ("SELECT k FROM t;;", 16, SqlKind::Syntax),
+    ("SELECT k, FROM t", 10, SqlKind::Syntax),
+    ("SELECT * , k FROM t", 9, SqlKind::Syntax),
+    ("SELECT SUM(*) FROM t", 11, SqlKind::Syntax),
+    ("SELECT COUNT(*, k) FROM t", 14, SqlKind::Syntax),
+    ("SELECT `sum`(v) FROM t", 12, SqlKind::Syntax),
+    ("SELECT k FROM t WHERE k = NULL", 26, SqlKind::Syntax),
+    ("SELECT k FROM t WHERE k = 1 OR k = 2", 28, SqlKind::Syntax),
+    ("SELECT k FROM t ORDER BY k GROUP BY k", 27, SqlKind::Syntax),
+    ("CREATE MATERIALIZED x", 7, SqlKind::Syntax),
+    ("CREATE TABLE t ()", 16, SqlKind::Syntax),
+    (
+        "CREATE TABLE t (k INT) DISTRIBUTED BY HASH(k) PROPERTIES ()",
+        58,
+        SqlKind::Syntax,
+    ),
+    ("CREATE TABLE t (k INT) BUCKETS 4", 23, SqlKind::Syntax),
+    (
+        "ALTER TABLE t ADD PARTITION p VALUES LESS THAN ('a', 'b')",
+        51,
+        SqlKind::Syntax,
+    ),
+    (
+        "ALTER TABLE t ADD ROLLUP r (k), DROP COLUMN c",
+        30,
+        SqlKind::Syntax,
+    ),
+    (
+        "ALTER TABLE t DROP COLUMN c, ADD ROLLUP r (k)",
+        33,
+        SqlKind::Syntax,
+    ),
+    ("ALTER TABLE t ADD k INT", 18, SqlKind::Syntax),
+    ("SHOW ALTER TABLE t", 17, SqlKind::Syntax),
+    ("SHOW TRANSACTION WHERE ID = 'l'", 28, SqlKind::Syntax),
+    ("ADMIN AUDIT DROP", 16, SqlKind::Syntax),
+    ("'a''b", 0, SqlKind::Syntax),
+    ("SELECT k FROM t WHERE k = 'a''b", 29, SqlKind::Lex),
+    ("SELECT k FROM t WHERE k = '", 26, SqlKind::Lex),
+    ("SELECT k FROM t\0", 15, SqlKind::Lex),
+    ("SELECT é FROM t", 7, SqlKind::Lex),
+    ("é", 0, SqlKind::Lex),
+    ("SELECT k FROM t WHERE k ! 1", 24, SqlKind::Lex),
+    ("SELECT k FROM t LIMIT -1", 22, SqlKind::Range),
+    (
+        "SELECT k FROM t LIMIT -9223372036854775808",
+        22,
+        SqlKind::Range,
+    ),
+    (
+        "SELECT k FROM t LIMIT 9223372036854775808",
+        22,
+        SqlKind::Range,
+    ),
+    (
+        "SELECT k FROM t LIMIT -9223372036854775809",
+        22,
+        SqlKind::Range,
+    ),
+    (
+        "CREATE TABLE t (k INT) DISTRIBUTED BY HASH(k) BUCKETS -4",
+        54,
+        SqlKind::Range,
+    ),
+    (
+        "CREATE TABLE t (k VARCHAR(-1)) DISTRIBUTED BY HASH(k)",
+        26,
+        SqlKind::Range,
+    ),
+    ("SHOW TRANSACTION WHERE ID = -1", 28, SqlKind::Range),
+    ("ADMIN AUDIT DROP -1", 17, SqlKind::Range),
+    (
+        "SELECT k FROM t WHERE k = 9223372036854775808",
+        26,
+        SqlKind::Range,
+    ),
+    ("DROP TABLE 9223372036854775808", 11, SqlKind::Range),
+    ("DROP TABLE -1", 11, SqlKind::Syntax),
+    ("SELECT -1 FROM t", 7, SqlKind::Syntax),
+    ("SELECT k FROM t -1", 16, SqlKind::Syntax),
+    // Reserved words outside backquotes.
+    ("DROP TABLE ADD", 11, SqlKind::Syntax),
+    ("DROP TABLE ALTER", 11, SqlKind::Syntax),
+    ("DROP TABLE AND", 11, SqlKind::Syntax),
+    ("DROP TABLE ASC", 11, SqlKind::Syntax),
+    ("DROP TABLE BY", 11, SqlKind::Syntax),
+    ("DROP TABLE COLUMN", 11, SqlKind::Syntax),
+    ("DROP TABLE CREATE", 11, SqlKind::Syntax),
+    ("DROP TABLE DATABASE", 11, SqlKind::Syntax),
+    ("DROP TABLE DEFAULT", 11, SqlKind::Syntax),
+    ("DROP TABLE DESC", 11, SqlKind::Syntax),
+    ("DROP TABLE DISTRIBUTED", 11, SqlKind::Syntax),
+    ("DROP TABLE DROP", 11, SqlKind::Syntax),
+    ("DROP TABLE EXISTS", 11, SqlKind::Syntax),
+    ("DROP TABLE FROM", 11, SqlKind::Syntax),
+    ("DROP TABLE GROUP", 11, SqlKind::Syntax),
+    ("DROP TABLE IS", 11, SqlKind::Syntax),
+    ("DROP TABLE KEY", 11, SqlKind::Syntax),
+    ("DROP TABLE LESS", 11, SqlKind::Syntax),
+    ("DROP TABLE LIMIT", 11, SqlKind::Syntax),
+    ("DROP TABLE MODIFY", 11, SqlKind::Syntax),
+    ("DROP TABLE NOT", 11, SqlKind::Syntax),
+    ("DROP TABLE NULL", 11, SqlKind::Syntax),
+    ("DROP TABLE ORDER", 11, SqlKind::Syntax),
+    ("DROP TABLE PARTITION", 11, SqlKind::Syntax),
+    ("DROP TABLE PROPERTIES", 11, SqlKind::Syntax),
+    ("DROP TABLE RANGE", 11, SqlKind::Syntax),
+    ("DROP TABLE SELECT", 11, SqlKind::Syntax),
+    ("DROP TABLE SHOW", 11, SqlKind::Syntax),
+    ("DROP TABLE TABLE", 11, SqlKind::Syntax),
+    ("DROP TABLE THAN", 11, SqlKind::Syntax),
+    ("DROP TABLE VALUES", 11, SqlKind::Syntax),
+    ("DROP TABLE WHERE", 11, SqlKind::Syntax),
+    ("DROP TABLE IF", 13, SqlKind::Syntax),
+];
+
+// The tables as slices, so that the functions that go over them are proved without their members.
+fn statements() -> &'static [&'static str] {
+    STATEMENTS
+}
+
+fn faults() -> &'static [(&'static str, u64, SqlKind)] {
+    FAULTS
+}
+
+// Why a text is no statement.
+fn fault_of(alloc: Global, text: &str) -> Option<SqlError> {
+    parse_stmt(alloc, text).err()
 }
 
 #[test]
 fn each_alternative_is_read(rt: HostRuntime) -> Result<(), Fail> {
-    for text in STATEMENTS {
-        assert_eq!(rt; fault_of(rt.alloc(), text)?, None, "{text}");
-    }
-    Ok(())
-}
-
-#[test]
-fn a_text_that_is_cut_has_its_fault_at_its_end(rt: HostRuntime) -> Result<(), Fail> {
-    for text in STATEMENTS {
-        let found = tokens(rt.alloc(), text).ok().ok_or("out of memory")?;
-        for token in found.as_slice() {
-            let front = text.get(..token.at as usize).ok_or("no place")?;
-            let fault = fault_of(rt.alloc(), front)?;
-            let at_end = SqlFault {
-                at: token.at,
-                kind: SqlFaultKind::Syntax,
-            };
-            assert!(rt; fault == None || fault == Some(at_end), "{front}");
-        }
+    for text in statements() {
+        assert_eq!(rt; fault_of(rt.alloc(), text), None, "{text}");
     }
     Ok(())
 }
 
 #[test]
 fn the_first_token_that_no_statement_has_is_the_fault(rt: HostRuntime) -> Result<(), Fail> {
-    use SqlFaultKind::{Lex, Range, Syntax};
-    let table = [
-        ("SELECT k FROM t EXTRA", 16, Syntax),
-        ("", 0, Syntax),
-        (" ", 1, Syntax),
-        (";", 0, Syntax),
-        ("SELECT", 6, Syntax),
-        ("SELECT k FROM t;;", 16, Syntax),
-        ("SELECT k, FROM t", 10, Syntax),
-        ("SELECT * , k FROM t", 9, Syntax),
-        ("SELECT SUM(*) FROM t", 11, Syntax),
-        ("SELECT COUNT(*, k) FROM t", 14, Syntax),
-        ("SELECT `sum`(v) FROM t", 12, Syntax),
-        ("SELECT k FROM t WHERE k = NULL", 26, Syntax),
-        ("SELECT k FROM t WHERE k = 1 OR k = 2", 28, Syntax),
-        ("SELECT k FROM t ORDER BY k GROUP BY k", 27, Syntax),
-        ("CREATE MATERIALIZED x", 7, Syntax),
-        ("CREATE TABLE t ()", 16, Syntax),
-        (
-            "CREATE TABLE t (k INT) DISTRIBUTED BY HASH(k) PROPERTIES ()",
-            58,
-            Syntax,
-        ),
-        ("CREATE TABLE t (k INT) BUCKETS 4", 23, Syntax),
-        (
-            "ALTER TABLE t ADD PARTITION p VALUES LESS THAN ('a', 'b')",
-            51,
-            Syntax,
-        ),
-        ("ALTER TABLE t ADD ROLLUP r (k), DROP COLUMN c", 30, Syntax),
-        ("ALTER TABLE t DROP COLUMN c, ADD ROLLUP r (k)", 33, Syntax),
-        ("ALTER TABLE t ADD k INT", 18, Syntax),
-        ("SHOW ALTER TABLE t", 17, Syntax),
-        ("SHOW TRANSACTION WHERE ID = 'l'", 28, Syntax),
-        ("ADMIN AUDIT DROP", 16, Syntax),
-        ("'a''b", 0, Syntax),
-        ("SELECT k FROM t WHERE k = 'a''b", 29, Lex),
-        ("SELECT k FROM t WHERE k = '", 26, Lex),
-        ("SELECT k FROM t\0", 15, Lex),
-        ("SELECT é FROM t", 7, Lex),
-        ("é", 0, Lex),
-        ("SELECT k FROM t WHERE k ! 1", 24, Lex),
-        ("SELECT k FROM t LIMIT -1", 22, Range),
-        ("SELECT k FROM t LIMIT -9223372036854775808", 22, Range),
-        ("SELECT k FROM t LIMIT 9223372036854775808", 22, Range),
-        ("SELECT k FROM t LIMIT -9223372036854775809", 22, Range),
-        (
-            "CREATE TABLE t (k INT) DISTRIBUTED BY HASH(k) BUCKETS -4",
-            54,
-            Range,
-        ),
-        (
-            "CREATE TABLE t (k VARCHAR(-1)) DISTRIBUTED BY HASH(k)",
-            26,
-            Range,
-        ),
-        ("SHOW TRANSACTION WHERE ID = -1", 28, Range),
-        ("ADMIN AUDIT DROP -1", 17, Range),
-        ("SELECT k FROM t WHERE k = 9223372036854775808", 26, Range),
-        ("DROP TABLE 9223372036854775808", 11, Range),
-        ("DROP TABLE -1", 11, Syntax),
-        ("SELECT -1 FROM t", 7, Syntax),
-        ("SELECT k FROM t -1", 16, Syntax),
-    ];
-    for (text, at, kind) in table {
-        assert_eq!(rt;
-            fault_of(rt.alloc(), text)?,
-            Some(SqlFault { at, kind }),
-            "{text}"
-        );
+    for (text, at, kind) in faults() {
+        let fault = Some(SqlError::SqlFault {
+            at: *at,
+            kind: *kind,
+        });
+        assert_eq!(rt; fault_of(rt.alloc(), text), fault, "{text}");
     }
     Ok(())
 }
 
-#[test]
-fn a_reserved_word_is_a_name_in_backquotes_alone(rt: HostRuntime) -> Result<(), Fail> {
-    let reserved = [
-        "ADD",
-        "ALTER",
-        "AND",
-        "ASC",
-        "BY",
-        "COLUMN",
-        "CREATE",
-        "DATABASE",
-        "DEFAULT",
-        "DESC",
-        "DISTRIBUTED",
-        "DROP",
-        "EXISTS",
-        "FROM",
-        "GROUP",
-        "IS",
-        "KEY",
-        "LESS",
-        "LIMIT",
-        "MODIFY",
-        "NOT",
-        "NULL",
-        "ORDER",
-        "PARTITION",
-        "PROPERTIES",
-        "RANGE",
-        "SELECT",
-        "SHOW",
-        "TABLE",
-        "THAN",
-        "VALUES",
-        "WHERE",
-    ];
-    for word in reserved {
-        let text = format!(in rt.alloc(); "DROP TABLE {word}")?;
-        let fault = SqlFault {
-            at: 11,
-            kind: SqlFaultKind::Syntax,
+// Whether each front of a text that ends before a token is a statement, or has its fault at its end.
+fn fronts_end_at_faults(alloc: Global, text: &str) -> bool {
+    let Ok(found) = tokens(alloc, text) else {
+        return false;
+    };
+    for token in found.as_slice() {
+        let Some(front) = text.get(..token.at as usize) else {
+            return false;
         };
-        assert_eq!(rt; fault_of(rt.alloc(), &text)?, Some(fault), "{word}");
-        let text = format!(in rt.alloc(); "DROP TABLE `{word}`")?;
-        assert_eq!(rt; fault_of(rt.alloc(), &text)?, None, "{word}");
+        if !is_whole_or_cut(fault_of(alloc, front), token.at) {
+            return false;
+        }
     }
-    assert_eq!(rt;
-        fault_of(rt.alloc(), "DROP TABLE IF")?,
-        Some(SqlFault {
-            at: 13,
-            kind: SqlFaultKind::Syntax
-        })
-    );
-    assert_eq!(rt; fault_of(rt.alloc(), "DROP TABLE `IF`")?, None);
-    for word in [
-        "rollup", "maxvalue", "hash", "all", "sum", "tables", "engine", "first", "int", "admin",
-    ] {
-        let text = format!(in rt.alloc(); "DROP TABLE {word}")?;
-        assert_eq!(rt; fault_of(rt.alloc(), &text)?, None, "{word}");
+    true
+}
+
+fn is_whole_or_cut(fault: Option<SqlError>, end: u64) -> bool {
+    let kind = SqlKind::Syntax;
+    fault == None || fault == Some(SqlError::SqlFault { at: end, kind })
+}
+
+#[test]
+fn a_text_that_is_cut_has_its_fault_at_its_end(rt: HostRuntime) -> Result<(), Fail> {
+    for text in statements() {
+        assert!(rt; fronts_end_at_faults(rt.alloc(), text), "{text}");
     }
     Ok(())
 }
 
-fn statement(alloc: Global, text: &str) -> Result<Stmt, Fail> {
-    match parse_stmt(alloc, text) {
-        Ok(stmt) => Ok(stmt),
-        Err(_) => Err("no statement".into()),
-    }
+fn is_named(name: &Name, bytes: &[u8]) -> bool {
+    name.bytes() == bytes
 }
 
-#[test]
-fn the_parts_of_a_query_stand_in_their_places(rt: HostRuntime) -> Result<(), Fail> {
-    let text =
-        "SELECT k, COUNT(*), min(v) FROM t WHERE a <= -1 AND b IS NOT NULL GROUP BY g ORDER BY 2 DESC, k LIMIT 7";
-    let stmt = statement(rt.alloc(), text)?;
-    let Stmt::Select(query) = &stmt else {
-        return Err("no query".into());
-    };
-    assert_eq!(rt; query.table.bytes(), b"t".as_slice());
-    assert!(rt; !query.star);
-    let items = query.items.as_slice();
-    assert!(rt;
-        matches!(
-            items,
-            [Item::Column(_), Item::CountAll, Item::Agg(AggFn::Min, _)]
-        )
-    );
-    let [first, second] = query.filters.as_slice() else {
-        return Err("not two tests".into());
-    };
-    assert!(rt;
-        matches!(
-            &first.check,
-            Check::Compare(CompareOp::Le, Literal::Int(-1))
-        )
-    );
-    assert!(rt; matches!(&second.check, Check::IsNotNull));
-    let ([group], [position, item]) = (query.group.as_slice(), query.order.as_slice()) else {
-        return Err("not one name and two keys".into());
-    };
-    assert_eq!(rt; group.bytes(), b"g".as_slice());
-    assert!(rt; position.descending && !item.descending);
-    assert!(rt; matches!(&position.by, OrderBy::Position(2)));
-    assert_eq!(rt; query.limit, Some(7));
-    Ok(())
+fn are_items(items: &[Item]) -> bool {
+    matches!(
+        items,
+        [Item::Column(_), Item::CountAll, Item::Agg(AggFn::Min, _)]
+    )
 }
 
-#[test]
-fn the_parts_of_a_table_stand_in_their_places(rt: HostRuntime) -> Result<(), Fail> {
-    let text =
-        "CREATE TABLE IF NOT EXISTS t (k VARCHAR(9) NOT NULL, v BIGINT SUM DEFAULT NULL) AGGREGATE KEY(k) PARTITION BY RANGE(k) (PARTITION p VALUES LESS THAN MAXVALUE) DISTRIBUTED BY HASH(k) BUCKETS 3 PROPERTIES('a'='b')";
-    let stmt = statement(rt.alloc(), text)?;
-    let Stmt::CreateTable {
-        if_not_exists,
-        name,
-        def,
-    } = &stmt
-    else {
-        return Err("no table".into());
+fn are_filters(filters: &[Filter]) -> bool {
+    let [first, second] = filters else {
+        return false;
     };
-    assert!(rt; *if_not_exists);
-    assert_eq!(rt; name.bytes(), b"t".as_slice());
+    matches!(
+        &first.check,
+        Check::Compare(CompareOp::Le, Literal::Int(-1))
+    ) && matches!(&second.check, Check::IsNotNull)
+}
+
+fn are_keys(order: &[OrderKey]) -> bool {
+    let [position, item] = order else {
+        return false;
+    };
+    position.descending && !item.descending && matches!(&position.by, OrderBy::Position(2))
+}
+
+// SELECT k, COUNT(*), min(v) FROM t WHERE a <= -1 AND b IS NOT NULL GROUP BY g ORDER BY 2 DESC, k LIMIT 7
+fn is_the_query(query: &Query) -> bool {
+    let [group] = query.group.as_slice() else {
+        return false;
+    };
+    is_named(&query.table, b"t")
+        && !query.star
+        && are_items(query.items.as_slice())
+        && are_filters(query.filters.as_slice())
+        && is_named(group, b"g")
+        && are_keys(query.order.as_slice())
+        && query.limit == Some(7)
+}
+
+fn are_columns(def: &TableDef) -> bool {
     let [k, v] = def.columns.as_slice() else {
-        return Err("not two columns".into());
+        return false;
     };
-    assert!(rt;
-        k.kind == ColumnType::Varchar(9) && !k.nullable && k.agg == None && k.default.is_none()
-    );
-    assert!(rt; v.agg == Some(AggKind::Sum) && v.nullable);
-    assert!(rt; matches!(&v.default, Some(DefaultText::Null)));
-    let (Some(key), Some(ranges)) = (&def.key, &def.ranges) else {
-        return Err("no key or no partitions".into());
+    k.kind == ColumnType::Varchar(9)
+        && !k.nullable
+        && k.agg == None
+        && k.default.is_none()
+        && v.agg == Some(AggKind::Sum)
+        && v.nullable
+        && matches!(&v.default, Some(DefaultText::Null))
+}
+
+fn has_one_partition(def: &TableDef) -> bool {
+    let Some(ranges) = &def.ranges else {
+        return false;
     };
-    assert!(rt; key.model == Model::Aggregate);
-    let ([part], [property]) = (ranges.parts.as_slice(), def.properties.as_slice()) else {
-        return Err("not one partition and one property".into());
+    let [part] = ranges.parts.as_slice() else {
+        return false;
     };
-    assert!(rt; matches!(&part.bounds, PartBounds::Less(None)));
-    assert_eq!(rt; def.hash.len(), 1);
-    assert_eq!(rt; def.buckets, Some(3));
-    assert_eq!(rt; property.value.bytes(), b"b".as_slice());
+    matches!(&part.bounds, PartBounds::Less(None))
+}
+
+fn has_one_property(def: &TableDef) -> bool {
+    let [property] = def.properties.as_slice() else {
+        return false;
+    };
+    property.value.bytes() == b"b".as_slice()
+}
+
+fn is_aggregate(def: &TableDef) -> bool {
+    let Some(key) = &def.key else {
+        return false;
+    };
+    key.model == Model::Aggregate
+}
+
+fn is_the_table(def: &TableDef) -> bool {
+    are_columns(def)
+        && is_aggregate(def)
+        && has_one_partition(def)
+        && def.hash.len() == 1
+        && def.buckets == Some(3)
+        && has_one_property(def)
+}
+
+fn are_clauses(clauses: &[Clause]) -> bool {
+    matches!(clauses, [Clause::Add(column, Some(ColumnPlace::First)), Clause::Drop(_)] if column.key)
+}
+
+// What a row of the table below says of a statement.
+fn holds(row: usize, stmt: &Stmt) -> bool {
+    match (row, stmt) {
+        (0, Stmt::Select(query)) => is_the_query(query),
+        (
+            1,
+            Stmt::CreateTable {
+                if_not_exists,
+                name,
+                def,
+            },
+        ) => *if_not_exists && is_named(name, b"t") && is_the_table(def),
+        (2, Stmt::Alter { clauses, .. }) => are_clauses(clauses.as_slice()),
+        (
+            3,
+            Stmt::ShowAlter {
+                kind: AlterKind::Rollup,
+            },
+        ) => true,
+        (
+            4,
+            Stmt::ShowTransaction {
+                by: TransactionKey::Id(5),
+            },
+        ) => true,
+        (5, Stmt::Admin(AdminTask::Sweep)) => true,
+        (6, Stmt::AuditDrop { place: 3 }) => true,
+        _ => false,
+    }
+}
+
+const HOLDING: &[&str] = &[
+    "SELECT k, COUNT(*), min(v) FROM t WHERE a <= -1 AND b IS NOT NULL GROUP BY g ORDER BY 2 DESC, k LIMIT 7",
+    "CREATE TABLE IF NOT EXISTS t (k VARCHAR(9) NOT NULL, v BIGINT SUM DEFAULT NULL) AGGREGATE KEY(k) PARTITION BY RANGE(k) (PARTITION p VALUES LESS THAN MAXVALUE) DISTRIBUTED BY HASH(k) BUCKETS 3 PROPERTIES('a'='b')",
+    "ALTER TABLE t ADD COLUMN c INT KEY FIRST, DROP COLUMN d",
+    "SHOW ALTER TABLE ROLLUP",
+    "SHOW TRANSACTION WHERE ID = 5",
+    "ADMIN SWEEP",
+    "ADMIN AUDIT DROP 3",
+];
+
+fn holding() -> &'static [&'static str] {
+    HOLDING
+}
+
+fn is_held(alloc: Global, row: usize, text: &str) -> bool {
+    match parse_stmt(alloc, text) {
+        Ok(stmt) => holds(row, &stmt),
+        Err(_) => false,
+    }
+}
+
+#[test]
+fn parts_stand_in_their_places(rt: HostRuntime) -> Result<(), Fail> {
+    for (row, text) in holding().iter().enumerate() {
+        assert!(rt; is_held(rt.alloc(), row, text), "{text}");
+    }
     Ok(())
 }
 
 #[test]
-fn the_other_statements_hold_what_is_written(rt: HostRuntime) -> Result<(), Fail> {
-    let alloc = rt.alloc();
-    let altered = statement(
-        alloc,
-        "ALTER TABLE t ADD COLUMN c INT KEY FIRST, DROP COLUMN d",
-    )?;
-    let Stmt::Alter { clauses, .. } = &altered else {
-        return Err("no clauses".into());
+fn a_fault_is_told_as_it_is_answered(rt: HostRuntime) -> Result<(), Fail> {
+    let fault = SqlError::SqlFault {
+        at: 16,
+        kind: SqlKind::Syntax,
     };
-    let [
-        Clause::Add(column, Some(ColumnPlace::First)),
-        Clause::Drop(_),
-    ] = clauses.as_slice()
-    else {
-        return Err("other clauses".into());
-    };
-    assert!(rt; column.key);
-    let shown = statement(alloc, "SHOW ALTER TABLE ROLLUP")?;
-    assert!(rt;
-        matches!(
-            &shown,
-            Stmt::ShowAlter {
-                kind: AlterKind::Rollup
-            }
-        )
-    );
-    let asked = statement(alloc, "SHOW TRANSACTION WHERE ID = 5")?;
-    assert!(rt;
-        matches!(
-            &asked,
-            Stmt::ShowTransaction {
-                by: TransactionKey::Id(5)
-            }
-        )
-    );
-    let task = statement(alloc, "ADMIN SWEEP")?;
-    assert!(rt; matches!(&task, Stmt::Admin(AdminTask::Sweep)));
-    let dropped = statement(alloc, "ADMIN AUDIT DROP 3")?;
-    assert!(rt; matches!(&dropped, Stmt::AuditDrop { place: 3 }));
+    let text = format!(in rt.alloc(); "{fault}")?;
+    assert_eq!(rt; text.as_str(), "SqlFault at=16 kind=Syntax");
     Ok(())
 }

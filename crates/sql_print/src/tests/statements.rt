@@ -9,7 +9,7 @@ use std::test::Fail;
 fn printed(alloc: Global, text: &str) -> Result<String, NoMemory> {
     match parse_stmt(alloc, text) {
         Ok(stmt) => print_stmt(alloc, &stmt),
-        Err(SqlError::Fault(_)) => Ok(String::new(alloc)),
+        Err(SqlError::SqlFault { .. }) => Ok(String::new(alloc)),
         Err(SqlError::NoMemory) => Err(NoMemory),
     }
 }
