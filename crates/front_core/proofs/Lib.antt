@@ -12,3 +12,4 @@ pub mod Due
 pub mod Labels
 pub mod Indexed
 pub mod Named
+pub mod Laid

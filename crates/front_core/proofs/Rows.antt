@@ -1,5 +1,6 @@
 -- The rows of a load: taken at its Submit, stored at its Publish, and shown by a snapshot.
 use Rattle.std.proofs.Common.{◌≡◌, ℕ, ◌+◌, ◌<◌, Bool, true, false, cond, List, [], ◌∷◌, ◌++◌, Option, Some, None, MatchOption, ◌⊎◌, inl, inr, map, find, length, length-append, refl, sym, ◌∙◌, ap, arith, subst, nat_eq, not, ◌&&◌}
+use Rattle.rowsets.specs.RowsetView.{rowset_rows}
 use Rattle.std.proofs.lemmas.Bool.Decides.{nat_tests}
 use Rattle.dl_values.specs.declared.cell.Cell.{Cell}
 use Rattle.sql_text.specs.declared.query.Query.{Query}
@@ -53,7 +54,7 @@ folds_by base [] (Sets (s ∷ ss) ∷ []) o k h = absurd (cc)
 folds_by base (r ∷ rs) (Sets [] ∷ []) o k h = absurd h
 folds_by base (r ∷ rs) (Sets (s ∷ t ∷ ss) ∷ []) o k h = absurd h
 folds_by base (r ∷ rs) (Sets (s ∷ []) ∷ []) None k h = absurd k
-folds_by base (r ∷ rs) (Sets (s ∷ []) ∷ []) (Some b) k h = h.folded ∙ ap (λ (x : ShapeView). fold_of x (r ∷ rs)) (sym k)
+folds_by base (r ∷ rs) (Sets (s ∷ []) ∷ []) (Some b) k h = h.built.folded ∙ ap (λ (x : ShapeView). fold_of x (r ∷ rs)) (sym k)
 
 -- the transaction after its Submit
 abbrev loaded : Txn → List (List Cell) → ℕ → LoadSubmitted
@@ -160,7 +161,7 @@ shows_base : (t : Table) (base : List (List Cell)) (lists shown : List (List (Li
 shows_base t base lists shown e same = record { rows = ap (λ (ls : List (List (List Cell))). fold_of t.shape (joined ls)) same ∙ sym e; stored = let c = ap (λ (ls : List (List (List Cell))). length (joined ls)) same ∙ cost_joined lists in omega (arith, c) }
 
 shown_table : (v : View) (Es : List Event) (t : Table) (r : Reply) → table_at t.number (tables_of Es) ≡ Some t → FoldsTo (table_at t.number (tables_of Es)) (base_of Es t.number) (lists_of Es t.number) → StandsOpen v Es → SharesLists t v.tablets r → Shows t (base_of Es t.number) (cost_of (lists_of Es t.number)) r
-shown_table v Es t (reply.Snap snapshot) at h s k = (k.0, k.1, shows_base t (base_of Es t.number) (lists_of Es t.number) (map (λ l. l.value) snapshot.lists) (folds_found (table_at t.number (tables_of Es)) t (base_of Es t.number) (lists_of Es t.number) at h) (k.2 ∙ s.tablets.lists t.number))
+shown_table v Es t (reply.Snap snapshot) at h s k = (k.0, k.1, shows_base t (base_of Es t.number) (lists_of Es t.number) (map (λ l. rowset_rows l.value) snapshot.lists) (folds_found (table_at t.number (tables_of Es)) t (base_of Es t.number) (lists_of Es t.number) at h) (k.2 ∙ s.tablets.lists t.number))
 shown_table v Es t _ at h s k = absurd k
 
 shown_for : (v : View) (Es : List Event) (o : Option Table) (r : Reply) → ((t : Table) → o ≡ Some t → table_at t.number (tables_of Es) ≡ Some t) → ((table : ℕ) → FoldsTo (table_at table (tables_of Es)) (base_of Es table) (lists_of Es table)) → StandsOpen v Es → SharedFor o v.tablets r → ShownFor o (base_of Es) (λ t. cost_of (lists_of Es t)) r

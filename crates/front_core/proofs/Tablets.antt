@@ -1,5 +1,6 @@
 -- What is stored of tables, after a list more or a table more.
 use Rattle.std.proofs.Common.{◌≡◌, ℕ, zero, suc, ◌+◌, ◌≤◌, ◌<◌, Bool, true, false, cond, List, [], ◌∷◌, ◌++◌, length, get_or, Option, Some, map, refl, sym, ◌∙◌, ap, arith, position, slice_set, nat_eq}
+use Rattle.rowsets.specs.RowsetView.{rowset_rows}
 use Rattle.std.proofs.lemmas.Bool.Decides.{nat_tests}
 use Rattle.std.proofs.lemmas.List.Quantifiers.{position-Some}
 use Rattle.dl_values.specs.declared.cell.Cell.{Cell}
@@ -77,7 +78,7 @@ stores_there table i rows d y ks e at h =
     by_lists : (t : ℕ) (b : Bool) → nat_eq table t ≡ b → IsFirst table i d ks → stored_for table ks ≡ Some d → y.table ≡ table → lists_in (stored_for t (slice_set ks i y)) ≡ cond b (lists_in (stored_for t ks) ++ rows ∷ []) (lists_in (stored_for t ks))
     by_lists t true is f there number =
         let same : table ≡ t = eq_is table t is in
-        let old : lists_in (stored_for t ks) ≡ map (λ l. l.value) d.lists = rw (← same) (ap lists_in there) in
+        let old : lists_in (stored_for t ks) ≡ map (λ l. rowset_rows l.value) d.lists = rw (← same) (ap lists_in there) in
         by_same lists_in table t i d y ks (lists_in (stored_for t ks) ++ rows ∷ []) f number (h.lists ∙ ap (λ ls. ls ++ rows ∷ []) (sym old)) true is
     by_lists t false is f there number = by_same lists_in table t i d y ks (lists_in (Some y)) f number refl false is
 

@@ -1,6 +1,7 @@
 -- The two parts of a front, and what each command makes of them by its reply.
 use Rattle.std.specs.Prelude.{◌≡◌, ℕ, ◌+◌, ◌≤◌, Bool, true, false, cond, List, [], ◌∷◌, ◌++◌, Option, Some, None, map, nat_eq, nat_lt, is_some}
 use Rattle.dl_values.specs.declared.cell.Cell.{Cell}
+use Rattle.rowsets.specs.RowsetView.{rowset_rows}
 use Rattle.labels.specs.declared.txn_state.TxnState.{TxnState}
 use Rattle.labels.specs.declared.txn_state.TxnState.TheVariants as state
 use Rattle.front_defs.specs.declared.catalogue.Table.{Table}
@@ -95,7 +96,7 @@ published at v = published_as (due v.txns) at v
 -- one list more, and higher versions
 pub record HasList (rows : List (List Cell)) (old new : TabletLists) : Type 0 where
   pub table : new.table ≡ old.table
-  pub lists : map (λ l. l.value) new.lists ≡ map (λ l. l.value) old.lists ++ rows ∷ []
+  pub lists : map (λ l. rowset_rows l.value) new.lists ≡ map (λ l. rowset_rows l.value) old.lists ++ rows ∷ []
   pub versions : new.versions ≡ map (λ v. v + 1) old.versions
 
 -- The stored lists of a table get one more, and its versions rise.
@@ -185,12 +186,12 @@ is_fit (r ∷ rs) (Sets (s ∷ []) ∷ []) = true
 is_fit _ _ = false
 
 abbrev pub set_rows : List Mapped → List (List Cell)
-set_rows (Sets (s ∷ []) ∷ []) = s.rows.value
+set_rows (Sets (s ∷ []) ∷ []) = rowset_rows s.rows.value
 set_rows _ = []
 
 -- the lists that a snapshot shares are those that are stored
 abbrev pub SharesLists : Table → List TabletLists → Reply → Type 0
-SharesLists t tablets (reply.Snap s) = (s.base ≡ t.shape) × (s.index ≡ t.shape) × (map (λ l. l.value) s.lists ≡ lists_in (stored_for t.number tablets))
+SharesLists t tablets (reply.Snap s) = (s.base ≡ t.shape) × (s.index ≡ t.shape) × (map (λ l. rowset_rows l.value) s.lists ≡ lists_in (stored_for t.number tablets))
 SharesLists t tablets _ = ⊥
 
 abbrev pub SharedFor : Option Table → List TabletLists → Reply → Type 0

@@ -2,6 +2,7 @@
 use Rattle.std.specs.Prelude.{◌≡◌, ℕ, map, ◌<◌, Bool, false, List, [], Option, Some, None}
 use Rattle.dl_values.specs.declared.cell.Cell.{Cell}
 use Rattle.labels.specs.declared.txn_state.TxnState.TheVariants as state
+use Rattle.rowsets.specs.RowsetView.{rowset_rows}
 use Rattle.front_defs.specs.declared.catalogue.Table.{Table}
 use Rattle.front_defs.specs.declared.txn.Txn.{Txn}
 use Rattle.front_defs.specs.Stands.{WaitingRows, waiting_for}
@@ -17,7 +18,7 @@ rows_in (Some h) = h.rows
 -- what it will add to what is stored
 abbrev pub folded_in : Option Held → List (List Cell)
 folded_in None = []
-folded_in (Some h) = h.rowset.value
+folded_in (Some h) = rowset_rows h.rowset.value
 
 abbrev pub seen : Kept → Txn
 seen k = record { id = k.id; db = k.db; table = k.table; label = k.label; state = k.state; since = k.since; two_phase = k.two_phase; schema = k.schema; place = k.place; told = k.told; rows = rows_in k.held }

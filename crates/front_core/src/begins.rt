@@ -1,6 +1,7 @@
 // What a load begins with: its label, its plan and what is kept of it.
-ghost use Rattle.std.specs.Prelude.{◌≡◌, IfOk, IfErr, None};
+ghost use Rattle.std.specs.Prelude.{◌≡◌, IfOk, IfErr, IfSome, None};
 ghost use Rattle.front_defs.specs.Answer.{bad_label, label_for, plan_of};
+ghost use Rattle.front_defs.specs.Gives.{Gives};
 ghost use Rattle.front_core.specs.Refused.{RefusesLabel, held_refusal};
 ghost use Rattle.front_core.specs.Seen.{kept_for};
 
@@ -16,6 +17,7 @@ use std::alloc::Global;
 pub fn label_or_refusal(alloc: Global, label: Option<Name>, next: u64) -> Result<Name, Reply>
     ensures ok { IfOk result (λ l. (l ≡ label_for label next) × (bad_label label ≡ None)) }
     ensures err { IfErr result (RefusesLabel label) }
+    ensures gives { IfErr result Gives }
 {
     match label {
         None => match auto_label(alloc, next) {
@@ -34,7 +36,8 @@ pub fn label_or_refusal(alloc: Global, label: Option<Name>, next: u64) -> Result
 
 // Why a label that is held cannot be used.
 pub fn used_refusal(holder: Option<(u64, TxnState)>) -> Option<Reply>
-    ensures { result ≡ held_refusal holder }
+    ensures is { result ≡ held_refusal holder }
+    ensures gives { IfSome result Gives }
 {
     match holder {
         None => None,

@@ -1,11 +1,13 @@
 // The databases and the tables, and what is stored of the tables.
-ghost use Rattle.std.specs.Prelude.{◌≡◌, ◌&&◌, ◌≤◌, ◌+◌, ℕ, ◌++◌, ◌∷◌, [], map, OnOk, OnErr, IfOk, None, false, length, position, nat_eq};
+ghost use Rattle.std.specs.Prelude.{◌≡◌, ◌&&◌, ◌≤◌, ◌+◌, ℕ, ◌++◌, ◌∷◌, [], map, OnOk, OnErr, IfOk, IfSome, None, false, length, position, nat_eq};
 ghost use Rattle.std.specs.List.{list_any};
 ghost use Rattle.std.specs.Map.{lookup};
 ghost use Rattle.std.specs.Option.{option_copied};
 ghost use Rattle.std.specs.Str.{bytes_eq};
 ghost use Rattle.front_defs.specs.Catalogue as defs;
 ghost use Rattle.front_defs.specs.Stands.{stored_for, lists_in};
+ghost use Rattle.partitions.specs.LayoutRules.{IsLayout};
+ghost use Rattle.rowsets.specs.RowsetView.{rowset_rows};
 ghost use Rattle.front_laws.specs.Tidy.{Each};
 ghost use Rattle.front_core.specs.Seen.{AscendsBy};
 ghost use Rattle.front_core.specs.Parts.{HasList, Stores, table_added, table_of};
@@ -82,7 +84,8 @@ impl Catalogue {
     }
 
     pub fn table(&self, db: &Name, name: &Name) -> Option<&Table>
-        ensures { option_copied result ≡ defs.table_named db.now name.now self.now.tables }
+        ensures is { option_copied result ≡ defs.table_named db.now name.now self.now.tables }
+        ensures laid { IfSome result (λ t. IsLayout t.now.shape t.now.layout) }
     {
         self.tables.get(TableRef { db, name })
     }
@@ -105,7 +108,8 @@ impl Catalogue {
         name: Name,
         made: Defined,
     ) -> Result<(), NoMemory>
-        requires { defs.table_named db name self.old.tables ≡ None }
+        requires new { defs.table_named db name self.old.tables ≡ None }
+        requires laid { IsLayout made.shape made.layout }
         ensures ok { OnOk result (self.new ≡ table_added db name made self.old) }
         ensures err { OnErr result (self.new ≡ self.old) }
     {
@@ -125,7 +129,7 @@ impl Catalogue {
 
     // Adds a list to what is stored of a table, and raises its versions.
     pub fn store(&mut self, alloc: Global, table: u64, rowset: &Arc<Rowset>) -> Result<(), NoMemory>
-        ensures ok { OnOk result (Stores table rowset.now.value self.old.tablets self.new.tablets) }
+        ensures ok { OnOk result (Stores table (rowset_rows rowset.now.value) self.old.tablets self.new.tablets) }
         ensures rest { self.new ≡ record self.old { tablets = self.new.tablets } }
         ensures err { OnErr result (self.new ≡ self.old) }
     {
@@ -134,7 +138,7 @@ impl Catalogue {
 
     // The lists that are stored of a table, each shared and not copied.
     pub fn lists(&self, alloc: Global, table: u64) -> Result<Items<Arc<Rowset>>, NoMemory>
-        ensures { IfOk result (λ lists. map (λ l. l.value) lists ≡ lists_in (stored_for table self.now.tablets)) }
+        ensures { IfOk result (λ lists. map (λ l. rowset_rows l.value) lists ≡ lists_in (stored_for table self.now.tablets)) }
     {
         match stored_of(&self.tablets, table) {
             None => Ok(Items::new(alloc)),
@@ -232,7 +236,7 @@ fn stored_of(tablets: &[TabletLists], table: u64) -> Option<&TabletLists>
 
 // The same lists, shared.
 fn shared(alloc: Global, lists: &[Arc<Rowset>]) -> Result<Items<Arc<Rowset>>, NoMemory>
-    ensures { IfOk result (λ all. map (λ l. l.value) all ≡ map (λ l. l.value) lists.now) }
+    ensures { IfOk result (λ all. map (λ l. rowset_rows l.value) all ≡ map (λ l. rowset_rows l.value) lists.now) }
 {
     let mut all = Items::new(alloc);
     for list in lists {
@@ -257,7 +261,7 @@ fn raised(alloc: Global, versions: &[u64]) -> Result<Items<u64>, NoMemory>
 
 // Adds a list, and raises the versions.
 fn add_list(alloc: Global, stored: &mut TabletLists, rowset: &Arc<Rowset>) -> Result<(), NoMemory>
-    ensures ok { OnOk result (HasList rowset.now.value stored.old stored.new) }
+    ensures ok { OnOk result (HasList (rowset_rows rowset.now.value) stored.old stored.new) }
     ensures table { stored.new.table ≡ stored.old.table }
     ensures err { OnErr result (stored.new ≡ stored.old) }
 {
@@ -276,7 +280,7 @@ fn store_in(
     rowset: &Arc<Rowset>,
 ) -> Result<(), NoMemory>
     requires { AscendsBy (λ k. k.table) tablets.old.items }
-    ensures ok { OnOk result (Stores table rowset.now.value tablets.old.items tablets.new.items) }
+    ensures ok { OnOk result (Stores table (rowset_rows rowset.now.value) tablets.old.items tablets.new.items) }
     ensures err { OnErr result (tablets.new.items ≡ tablets.old.items) }
     ensures known { (last : ℕ) → Each (λ k. k.table ≤ last) tablets.old.items → Each (λ k. k.table ≤ last) tablets.new.items }
     ensures ascends { AscendsBy (λ k. k.table) tablets.new.items }

@@ -1,9 +1,12 @@
 // What the definition of a table gives: a shape and a layout, or its first fault.
-ghost use Rattle.std.specs.Prelude.{◌≡◌, ◌+◌, ◌≤◌, ℕ, None, Some, IfOk, IfErr, find, not};
+ghost use Rattle.std.specs.Prelude.{◌≡◌, ◌+◌, ◌≤◌, ℕ, None, Some, true, IfOk, IfErr, find, not};
 ghost use Rattle.std.specs.Option.{option_copied, option_map};
 ghost use Rattle.schema_models.specs.ShapeRules.{is_key as is_key_role};
 ghost use Rattle.front_defs.specs.Defines as defines;
 ghost use Rattle.front_core.specs.Refused.{Refuses, shape_faults};
+ghost use Rattle.front_defs.specs.Gives.{Gives};
+ghost use Rattle.schema_models.specs.Names.{is_name};
+ghost use Rattle.partitions.specs.LayoutRules.{IsLayout};
 ghost use Rattle.partitions.specs.LayoutView.{whole};
 ghost use Rattle.table_defs.specs.declared.def_error.DefError.TheVariants as def_error;
 
@@ -171,6 +174,7 @@ fn layout_fault(
 fn shape_of(alloc: Global, def: &PlainDef) -> Result<Shape, Reply>
     ensures ok { IfOk result (λ s. (s ≡ defines.shape_by def.now) × (shape_faults def.now ≡ None)) }
     ensures err { IfErr result (Refuses (shape_faults def.now)) }
+    ensures gives { IfErr result Gives }
 {
     if let Some(place) = key_differs(def) {
         let column = place as u64;
@@ -195,14 +199,15 @@ fn shape_of(alloc: Global, def: &PlainDef) -> Result<Shape, Reply>
 fn layout_of(
     alloc: Global,
     table: &Name,
+    shape: &Shape,
     hash: Items<Name>,
     buckets: u64,
 ) -> Result<Layout, NoMemory>
     requires { buckets ≤ 64 }
-    ensures { IfOk result (λ l. l ≡ whole table.now hash buckets) }
+    ensures { IfOk result (λ l. l ≡ whole shape.now table.now hash buckets) }
 {
     let name = table.copy(alloc)?;
-    Layout::whole(alloc, name, hash, buckets as u32)
+    Layout::whole(alloc, shape, name, hash, buckets as u32)
 }
 
 // The layout that a definition writes, for rows of the shape, or its first fault.
@@ -213,8 +218,9 @@ fn checked_layout(
     hash: Items<Name>,
     buckets: u64,
 ) -> Result<Layout, Reply>
-    ensures ok { IfOk result (λ l. (l ≡ whole table.now hash buckets) × (defines.layout_fault shape.now hash buckets ≡ None)) }
+    ensures ok { IfOk result (λ l. (l ≡ whole shape.now table.now hash buckets) × (defines.layout_fault shape.now hash buckets ≡ None)) }
     ensures err { IfErr result (Refuses (option_map def_error.Layout (defines.layout_fault shape.now hash buckets))) }
+    ensures gives { IfErr result Gives }
 {
     match layout_fault(alloc, shape, hash.as_slice(), buckets) {
         Err(NoMemory) => Err(Reply::NoMemory),
@@ -222,7 +228,7 @@ fn checked_layout(
             let error = DefError::Layout(fault);
             Err(Reply::BadTable { error })
         }
-        Ok(None) => match layout_of(alloc, table, hash, buckets) {
+        Ok(None) => match layout_of(alloc, table, shape, hash, buckets) {
             Ok(layout) => Ok(layout),
             Err(NoMemory) => Err(Reply::NoMemory),
         },
@@ -244,8 +250,9 @@ fn with_layout(
     hash: Items<Name>,
     buckets: u64,
 ) -> Result<Defined, Reply>
-    ensures ok { IfOk result (λ d. (d.shape ≡ shape) × (d.layout ≡ whole table.now hash buckets) × (defines.layout_fault shape hash buckets ≡ None)) }
+    ensures ok { IfOk result (λ d. (d.shape ≡ shape) × (d.layout ≡ whole shape table.now hash buckets) × (defines.layout_fault shape hash buckets ≡ None)) }
     ensures err { IfErr result (Refuses (option_map def_error.Layout (defines.layout_fault shape hash buckets))) }
+    ensures gives { IfErr result Gives }
 {
     match checked_layout(alloc, table, &shape, hash, buckets) {
         Ok(layout) => Ok(Defined { shape, layout }),
@@ -255,6 +262,9 @@ fn with_layout(
 
 // What a definition gives a table of this name, or its first fault as a refusal.
 pub fn define(alloc: Global, table: &Name, def: PlainDef) -> Result<Defined, Reply>
+    requires { is_name table.now ≡ true }
+    ensures laid { IfOk result (λ d. IsLayout d.shape d.layout) }
+    ensures gives { IfErr result Gives }
     ensures ok { IfOk result (λ d. (d.shape ≡ defines.shape_by def) × (d.layout ≡ defines.layout_by table.now def) × (defines.def_fault def ≡ None)) }
     ensures err { IfErr result (Refuses (defines.def_fault def)) }
 {

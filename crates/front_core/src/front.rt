@@ -5,6 +5,7 @@ ghost use Rattle.front_defs.specs.History.{outcome, Well, Refused, Faulted};
 ghost use Rattle.front_defs.specs.Catalogue.{table_named};
 ghost use Rattle.front_defs.specs.Transactions.{txn_at, txn_by};
 ghost use Rattle.front_core.specs.Parts.{BeginsLoad, EndsLoad, IsCalm, IsFront, IsPublished, TakesRows, Shares, is_fit, set_rows, with_db, with_table};
+ghost use Rattle.front_defs.specs.Gives.{Gives};
 ghost use Rattle.front_defs.specs.declared.history.Entry.{Entry};
 ghost use Rattle.front_defs.specs.declared.history.Entry.TheVariants.{Made};
 ghost use Rattle.front_defs.specs.Legal.{Legal};
@@ -76,6 +77,7 @@ impl Front {
         ensures well { outcome result ≡ Well → self.new ≡ with_db name self.old }
         ensures kept { outcome result ≡ Refused → self.new ≡ self.old }
         ensures works { outcome result ≡ Faulted → ⊥ }
+        ensures gives { Gives result }
         ensures calm { IsCalm self.old self.new }
     {
         if !is_name(name.bytes()) {
@@ -102,6 +104,7 @@ impl Front {
         ensures well { outcome result ≡ Well → self.new ≡ with_table db table def self.old }
         ensures kept { outcome result ≡ Refused → self.new ≡ self.old }
         ensures works { outcome result ≡ Faulted → ⊥ }
+        ensures gives { Gives result }
         ensures calm { IsCalm self.old self.new }
     {
         if !self.catalogue.has_db(&db) {
@@ -142,6 +145,7 @@ impl Front {
         ensures well { outcome result ≡ Well → BeginsLoad (table_named db table self.old.tables) label two_phase at self.old self.new }
         ensures kept { outcome result ≡ Refused → self.new ≡ self.old }
         ensures works { outcome result ≡ Faulted → ⊥ }
+        ensures gives { Gives result }
         ensures calm { IsCalm self.old self.new }
     {
         if !self.catalogue.has_db(&db) {
@@ -179,6 +183,7 @@ impl Front {
         ensures well { outcome result ≡ Well → TakesRows (txn_at txn self.old.txns) txn built.rows (set_rows built.targets) at self.old self.new }
         ensures kept { outcome result ≡ Refused → self.new ≡ self.old }
         ensures works { outcome result ≡ Faulted → ⊥ }
+        ensures gives { Gives result }
         ensures calm { IsCalm self.old self.new }
     {
         match held_of(built) {
@@ -192,6 +197,7 @@ impl Front {
         ensures well { outcome result ≡ Well → IsPublished at self.old self.new }
         ensures kept { outcome result ≡ Refused → self.new ≡ self.old }
         ensures works { outcome result ≡ Faulted → ⊥ }
+        ensures gives { Gives result }
         ensures calm { IsCalm self.old self.new }
     {
         let load = match self.transactions.due() {
@@ -214,6 +220,7 @@ impl Front {
         ensures well { outcome result ≡ Well → EndsLoad (txn_by db key self.old.txns) state.Aborted at self.old self.new }
         ensures kept { outcome result ≡ Refused → self.new ≡ self.old }
         ensures works { outcome result ≡ Faulted → ⊥ }
+        ensures gives { Gives result }
         ensures calm { IsCalm self.old self.new }
     {
         if !self.catalogue.has_db(&db) {
@@ -237,6 +244,7 @@ impl Front {
     fn snapshot(&self, db: Name, table: Name) -> Reply
         ensures answer { Shares db table self.now.databases self.now.tables self.now.tablets result }
         ensures works { outcome result ≡ Faulted → ⊥ }
+        ensures gives { Gives result }
         ensures calm { IsCalm self.now self.now }
     {
         if !self.catalogue.has_db(&db) {
@@ -257,6 +265,7 @@ impl Front {
         ensures legal { (H : List Entry) (seat : List ℕ) → Stands self.old H → Legal H → May H command → Legal (Made (made seat command result) ∷ H) }
         ensures kept { outcome result ≡ Refused → self.new ≡ self.old }
         ensures works { outcome result ≡ Faulted → ⊥ }
+        ensures gives { Gives result }
         ensures quiet { steps.new ≡ steps.old }
     {
         self.vouch();

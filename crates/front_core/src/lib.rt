@@ -18,6 +18,7 @@ mod transactions;
 mod waiter;
 
 pub use front::Front;
+pub use front_defs::{Command, Reply, Turns};
 pub use front_laws::laws;
 
 #[cfg(test)]

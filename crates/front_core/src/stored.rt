@@ -1,5 +1,8 @@
 // What is stored of a table: a snapshot of it, and the rows of a load more.
-ghost use Rattle.std.specs.Prelude.{◌≡◌, IfOk, OnOk, OnErr};
+ghost use Rattle.std.specs.Prelude.{◌≡◌, IfOk, IsTrue, OnOk, OnErr};
+ghost use Rattle.std.specs.List.{AllByRecursion};
+ghost use Rattle.front_defs.specs.Gives.{Gives};
+ghost use Rattle.rowsets.specs.RowsetView.{IsListOf};
 ghost use Rattle.front_defs.specs.declared.reply.Reply.TheVariants as reply;
 ghost use Rattle.front_core.specs.Parts.{SharesLists, StoresRows};
 ghost use Rattle.front_core.specs.Seen.{folded_in, rows_in};
@@ -10,6 +13,7 @@ use dl_values::NoMemory;
 use front_defs::Table;
 use merge_read::Snapshot;
 use rowsets::Rowset;
+use schema_models::Shape;
 use std::alloc::Global;
 use std::sync::Arc;
 
@@ -19,12 +23,32 @@ pub fn snapshot_of(
     catalogue: &Catalogue,
     table: &Table,
 ) -> Result<Snapshot<Arc<Rowset>>, NoMemory>
-    ensures { IfOk result (λ s. SharesLists table.now catalogue.now.tablets (reply.Snap s)) }
+    ensures shares { IfOk result (λ s. SharesLists table.now catalogue.now.tablets (reply.Snap s)) }
+    ensures gives { IfOk result (λ s. Gives (reply.Snap s)) }
 {
     let base = table.shape.copy(alloc)?;
     let index = table.shape.copy(alloc)?;
     let lists = catalogue.lists(alloc, table.number)?;
-    Ok(Snapshot { base, index, lists })
+    // What is handed on is tested: no history that is legal stores a rowset of another shape.
+    if are_lists_of(&index, lists.as_slice()) {
+        Ok(Snapshot { base, index, lists })
+    } else {
+        Err(NoMemory)
+    }
+}
+
+// Whether each rowset was made for the shape.
+fn are_lists_of(shape: &Shape, lists: &[Arc<Rowset>]) -> bool
+    ensures { IsTrue result → AllByRecursion (λ l. IsListOf shape.now l.value) lists.now }
+{
+    let mut place = lists.len();
+    while place > 0 {
+        place -= 1;
+        if !lists[place].is_of(shape) {
+            return false;
+        }
+    }
+    true
 }
 
 // Adds the rows of a load to what is stored of its table, where it has some.

@@ -3,6 +3,7 @@ ghost use Rattle.std.specs.Prelude.{◌≡◌, ◌+◌, ◌++◌, ◌∷◌, [],
 ghost use Rattle.std.specs.Option.{option_copied, option_map};
 ghost use Rattle.schema_models.specs.Faults.{first_of};
 ghost use Rattle.front_defs.specs.Answer.{Submits, submit_refusals};
+ghost use Rattle.front_defs.specs.Gives.{Gives};
 ghost use Rattle.front_defs.specs.Stands.{waiting_for};
 ghost use Rattle.front_defs.specs.Transactions.{ahead_of, due, is_committed, label_of, txn_at, txn_by};
 ghost use Rattle.labels.specs.declared.txn_state.TxnState.TheVariants as state;
@@ -88,7 +89,8 @@ fn put_last(queue: &mut VecDeque<Waiter>, placed: Option<Placed>, id: u64) -> Re
 
 // Why a Submit of a kept transaction is refused.
 fn submit_refusal(txn: &Kept, at: u64) -> Option<Reply>
-    ensures { result ≡ first_of (submit_refusals at (Some (seen txn.now))) }
+    ensures is { result ≡ first_of (submit_refusals at (Some (seen txn.now))) }
+    ensures gives { IfSome result Gives }
 {
     if txn.state != TxnState::Prepare {
         return Some(Reply::WrongState { state: txn.state });
@@ -254,6 +256,7 @@ impl Transactions {
     // Takes the rows of a begun load that has not expired.
     pub fn submit(&mut self, id: u64, held: Option<Held>, at: u64) -> Reply
         ensures answer { Submits id at self.old.txns self.old.places result }
+        ensures gives { Gives result }
         ensures well { outcome result ≡ Well → Takes (txn_at id self.old.txns) id (rows_in held) (folded_in held) at self.old self.new }
         ensures kept { outcome result ≡ Refused → self.new ≡ self.old }
         ensures works { outcome result ≡ Faulted → ⊥ }
