@@ -23,7 +23,6 @@ pub use real::{ReaderSource, WriterSink};
 pub use sink::{Sink, write_all};
 pub use source::Source;
 pub use steps::Steps;
-
 use thiserror::Error;
 
 /// A device failed. Its count of faults rose.
