@@ -159,13 +159,14 @@ prefix_take zero xs h = absurd (omega arith)
 prefix_take (suc n) [] h = refl
 prefix_take (suc n) (x ∷ xs) h = refl
 
-below_taken : (n : ℕ) (xs ys : List Cell) → 0 < n → row_prefix xs < row_prefix ys → row_cmp (take n xs) (take n ys) ≡ Less
-below_taken n xs ys p h = below_rows (take n xs) (take n ys) (rw (prefix_take n xs p, prefix_take n ys p) h)
+-- the same of the first cells of each
+pub below_taken : (m n : ℕ) (xs ys : List Cell) → 0 < m → 0 < n → row_prefix xs < row_prefix ys → row_cmp (take m xs) (take n ys) ≡ Less
+below_taken m n xs ys p q h = below_rows (take m xs) (take n ys) (rw (prefix_take m xs p, prefix_take n ys q) h)
 
 below_keys : (m : Model) (n : ℕ) (xs ys : List Cell) → 0 < n → row_prefix xs < row_prefix ys → row_cmp (key_in m n xs) (key_in m n ys) ≡ Less
 below_keys model.Duplicate n xs ys p h = below_rows xs ys h
-below_keys model.Unique n xs ys p h = below_taken n xs ys p h
-below_keys model.Aggregate n xs ys p h = below_taken n xs ys p h
+below_keys model.Unique n xs ys p h = below_taken n n xs ys p p h
+below_keys model.Aggregate n xs ys p h = below_taken n n xs ys p p h
 
 pub key_below : (s : ShapeView) (xs ys : List Cell) → 0 < key_count s.columns → row_prefix xs < row_prefix ys → Less ≡ row_cmp (key_of s xs) (key_of s ys)
 key_below s xs ys p h = sym (below_keys s.model (key_count s.columns) xs ys p h)

@@ -1,4 +1,4 @@
-mod Below
+pub mod Below
 mod MergeLemmas
 mod OrderedRows
 mod RunLemmas

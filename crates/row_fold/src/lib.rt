@@ -16,6 +16,7 @@ mod sorting;
 
 pub use folds::{fold_rows, fold_rows_of};
 pub use lists::{fold, fold_sorted};
+pub use prefix::prefix_of_view;
 pub use sorted_rows::SortedRows;
 
 #[cfg(test)]

@@ -2,7 +2,7 @@
 ghost use Rattle.std.specs.Prelude.{◌≡◌, ◌*◌, ◌<◌, ◌≤◌, drop};
 ghost use Rattle.row_fold.specs.Prefix as prefixes;
 
-use dl_values::Cell;
+use dl_values::{Cell, RowView};
 
 // The number of an integer, with the rank of integers in the top two bits.
 fn prefix_of_int(n: i64) -> u64
@@ -73,6 +73,17 @@ pub fn prefix_of(row: &[Cell]) -> u64
         [] => 0,
         [first, ..] => prefix_of_cell(first),
     }
+}
+
+/// The number of a row that is looked at where it stands, which is smaller only where the row is.
+#[inline(always)]
+pub fn prefix_of_view(row: &RowView) -> u64
+    ensures { result ≡ prefixes.row_prefix row.now }
+{
+    if row.len() == 0 {
+        return 0;
+    }
+    prefix_of_cell(row.cell(0))
 }
 
 // Whether no other cell has this number.

@@ -1,6 +1,7 @@
 -- The first cells are copied.
 use Rattle.std.proofs.Common.{◌≡◌, take}
+use Rattle.merge_read.specs.Merged.{row_of}
 use Rattle.merge_read.proofs.reading.add_row.Given as goal
 
-abbrev pub invariant-loop-column : goal.invariant-loop-column
-invariant-loop-column l = l.copy ≡ take l.column l.row
+abbrev pub invariant-loop-i : goal.invariant-loop-i
+invariant-loop-i l = l.row ≡ row_of (take l.i l.cells)

@@ -1,0 +1,42 @@
+-- Comparing the first cells of two rows, cell by cell.
+use Rattle.std.proofs.Common.{◌≡◌, ℕ, ◌+◌, ◌<◌, ◌≤◌, ◌∙◌, List, [], ◌∷◌, length, min, take, drop, get_or, refl, ap₂, sym, arith, length-drop, length-take}
+use Rattle.std.proofs.lemmas.List.{drop_more, get_or-take}
+use Rattle.std.proofs.lemmas.Bool.Decides.{nat_tests}
+use Rattle.std.specs.Ordering.{nat_cmp, ordering_then}
+use Rattle.std.specs.declared.cmp.Ordering.{Ordering}
+use Rattle.std.specs.declared.cmp.Ordering.TheVariants.{Less, Equal, Greater}
+use Rattle.dl_values.specs.Order.{cell_cmp, row_cmp}
+use Rattle.dl_values.specs.declared.cell.Cell.{Cell}
+use Rattle.dl_values.specs.declared.cell.Cell.TheVariants as cell
+
+-- the rows from a place on: the cells there decide, and else those behind them
+from_place : (xs ys : List Cell) (i : ℕ) (x y : Cell) → i < length xs → i < length ys → x ≡ get_or xs i cell.Null → y ≡ get_or ys i cell.Null
+    → row_cmp (drop i xs) (drop i ys) ≡ ordering_then (cell_cmp x y) (row_cmp (drop (i + 1) xs) (drop (i + 1) ys))
+from_place xs ys i x y l m e f =
+    ap₂ (λ (a b : List Cell). row_cmp a b) (drop_more xs i cell.Null l) (drop_more ys i cell.Null m)
+    ∙ ap₂ (λ (a b : Cell). ordering_then (cell_cmp a b) (row_cmp (drop (i + 1) xs) (drop (i + 1) ys))) (sym e) (sym f)
+
+in_width : (w i : ℕ) (row : List Cell) → i < min w (length row) → i < length (take w row)
+in_width w i row l = simp length-take (omega (arith, l))
+
+of_width : (w i : ℕ) (row : List Cell) (x : Cell) → i < min w (length row) → x ≡ get_or row i cell.Null → x ≡ get_or (take w row) i cell.Null
+of_width w i row x l e = e ∙ sym (get_or-take w row i cell.Null (omega (arith, l)))
+
+pub keys_from : (a b : List Cell) (v w i : ℕ) (x y : Cell) → i < min v (length a) → i < min w (length b) → x ≡ get_or a i cell.Null → y ≡ get_or b i cell.Null
+    → row_cmp (drop i (take v a)) (drop i (take w b)) ≡ ordering_then (cell_cmp x y) (row_cmp (drop (i + 1) (take v a)) (drop (i + 1) (take w b)))
+keys_from a b v w i x y l m e f = from_place (take v a) (take w b) i x y (in_width v i a l) (in_width w i b m) (of_width v i a x l e) (of_width w i b y m f)
+
+pub decided : (o rest : Ordering) → (Equal ≡ o → ⊥) → o ≡ ordering_then o rest
+decided Less rest n = refl
+decided Equal rest n = absurd (n refl)
+decided Greater rest n = refl
+
+ended : (xs ys : List Cell) → min (length xs) (length ys) ≡ 0 → row_cmp xs ys ≡ nat_cmp (length xs) (length ys)
+ended [] [] h = refl
+ended [] (y ∷ ys) h = grind (arith, nat_tests)
+ended (x ∷ xs) [] h = grind (arith, nat_tests)
+ended (x ∷ xs) (y ∷ ys) h = absurd (omega arith)
+
+-- where the shorter row has ended after n cells, the lengths decide
+pub ended_after : (xs ys : List Cell) (n : ℕ) → min (length xs) (length ys) ≤ n → n ≤ min (length xs) (length ys) → row_cmp (drop n xs) (drop n ys) ≡ nat_cmp (length xs) (length ys)
+ended_after xs ys n le ge = ended (drop n xs) (drop n ys) (simp length-drop (omega arith)) ∙ simp length-drop (grind (arith, nat_tests))

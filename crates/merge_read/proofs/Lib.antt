@@ -1,0 +1,10 @@
+pub mod Each
+pub mod FirstHeads
+pub mod HeadLemmas
+pub mod KeyLemmas
+pub mod Least
+pub mod Merging
+pub mod Opened
+pub mod RunLemmas
+pub mod Steps
+pub mod Streams

@@ -1,0 +1,21 @@
+// Keys of rows that are looked at where they stand.
+ghost use Rattle.std.specs.Prelude.{◌≡◌, take};
+ghost use Rattle.dl_values.specs.Order.{row_cmp};
+
+use dl_values::{RowView, compare_cells};
+use std::cmp::Ordering;
+
+// How the first cells of two rows stand to each other.
+pub fn compare_keys(a: &RowView, a_width: usize, b: &RowView, b_width: usize) -> Ordering
+    ensures { result ≡ row_cmp (take a_width a.now) (take b_width b.now) }
+{
+    let a_end = a_width.min(a.len());
+    let b_end = b_width.min(b.len());
+    for i in 0..a_end.min(b_end) {
+        match compare_cells(a.cell(i), b.cell(i)) {
+            Ordering::Equal => {}
+            other => return other,
+        }
+    }
+    a_end.cmp(&b_end)
+}

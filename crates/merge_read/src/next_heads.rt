@@ -1,0 +1,82 @@
+// Lists of rows that are read side by side: their heads.
+ghost use Rattle.std.specs.Prelude.{◌≡◌, ◌+◌, ◌<◌, ◌≤◌, ◌++◌, [], drop, length, map, option_to_list, IfNone, IfSome};
+ghost use Rattle.std.specs.BinaryHeap.{IsUpperBound};
+ghost use Rattle.merge_read.specs.HeadOrder.{head_cmp};
+ghost use Rattle.merge_read.specs.Keys.{key_width};
+ghost use Rattle.merge_read.specs.Lists.{AreSortedLists};
+ghost use Rattle.merge_read.specs.Rests.{AreHeads, AreRead, some_row, unread};
+
+use crate::head::Head;
+use crate::heads::Heads;
+use dl_outside::Steps;
+use row_fold::SortedRows;
+use schema_models::Shape;
+use std::sync::ledger::Ledger;
+
+// Looks at the first row of a list, where it has one, and puts it among the heads.
+fn load_head<'a, R: SortedRows, L: Ledger>(
+    width: usize,
+    list: usize,
+    rows: &'a R,
+    others: &mut Heads<'a>,
+    steps: &mut Steps<L>,
+)
+    requires some { 0 < width }
+    requires room { length others.old.items < others.old.room }
+    ensures read { AreRead width list (R.rows rows.now) others.old.items others.new.items }
+    ensures room { others.old.room ≤ others.new.room }
+    ensures counted { steps.new ≡ steps.old + some_row (R.rows rows.now) }
+{
+    if rows.len() == 0 {
+        return;
+    }
+    let row = rows.row(0, steps);
+    others.put(Head::new(row, width, list));
+}
+
+// Looks at the row of a list at a place, where it has one, and gives the first of all heads.
+pub fn next_first<'a, R: SortedRows, L: Ledger>(
+    width: usize,
+    list: usize,
+    rows: &'a R,
+    place: usize,
+    others: &mut Heads<'a>,
+    steps: &mut Steps<L>,
+) -> Option<Head<'a>>
+    requires some { 0 < width }
+    requires room { length others.old.items < others.old.room }
+    ensures read { AreRead width list (drop place (R.rows rows.now)) others.old.items (option_to_list result ++ others.new.items) }
+    ensures first { IfSome result (λ x. IsUpperBound head_cmp x others.new.items) }
+    ensures none { IfNone result (others.new.items ≡ []) }
+    ensures room { others.old.room ≤ others.new.room }
+    ensures counted { steps.new ≡ steps.old + some_row (drop place (R.rows rows.now)) }
+{
+    if place >= rows.len() {
+        return others.take();
+    }
+    let row = rows.row(place, steps);
+    Some(others.first_of(Head::new(row, width, list)))
+}
+
+// Looks at the first row of each list.
+pub fn load_heads<'a, R: SortedRows, L: Ledger>(
+    shape: &Shape,
+    width: usize,
+    lists: &'a [R],
+    others: &mut Heads<'a>,
+    steps: &mut Steps<L>,
+)
+    requires some { 0 < width }
+    requires wide { width ≡ key_width shape.now }
+    requires sorted { AreSortedLists shape.now (map (λ l. R.rows l) lists.now) }
+    requires empty { others.old.items ≡ [] }
+    requires room { length lists.now ≤ others.old.room }
+    ensures heads { AreHeads shape.now (length lists.now) (map (λ l. R.rows l) lists.now) others.new.items }
+    ensures few { length others.new.items ≤ length lists.now }
+    ensures room { others.old.room ≤ others.new.room }
+    ensures counted { steps.new + unread (length lists.now) (map (λ l. R.rows l) lists.now) ≡ steps.old + unread 0 (map (λ l. R.rows l) lists.now) }
+{
+    for list in 0..lists.len() {
+        load_head(width, list, &lists[list], others, steps);
+    }
+}
