@@ -2,6 +2,7 @@
 #![tactic(auto)]
 
 mod columns;
+pub mod laws;
 mod layout;
 mod layout_error;
 mod part_def;
