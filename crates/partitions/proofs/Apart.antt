@@ -13,7 +13,8 @@ use Rattle.schema_models.specs.Names.{is_name}
 use Rattle.schema_models.specs.ShapeView.{ShapeView}
 use Rattle.schema_models.specs.declared.column_def.ColumnDef.{ColumnDef}
 use Rattle.partitions.specs.LayoutView.{LayoutView}
-use Rattle.partitions.specs.Columns.{cell_under, is_key_name, names_of, type_under}
+use Rattle.schema_models.specs.CellsByName.{cell_under, names_of}
+use Rattle.partitions.specs.Columns.{is_key_name, type_under}
 use Rattle.partitions.specs.LayoutFaults.{is_named_in, may_part, meets}
 use Rattle.partitions.specs.LayoutRules.{IsLayout, fits_behind, fit_after, parts_fit, is_whole}
 use Rattle.partitions.specs.Ranges.{are_apart, are_bounds, ends_before, is_between}

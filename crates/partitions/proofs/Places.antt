@@ -23,7 +23,8 @@ use Rattle.schema_models.specs.declared.role.Role.{Role}
 use Rattle.schema_models.specs.declared.role.Role.TheVariants as role
 use Rattle.schema_models.proofs.RowMerges.{shape_folding}
 use Rattle.partitions.specs.LayoutView.{LayoutView}
-use Rattle.partitions.specs.Columns.{cell_under, is_key_name, names_of, type_under}
+use Rattle.schema_models.specs.CellsByName.{cell_under, names_of}
+use Rattle.partitions.specs.Columns.{is_key_name, type_under}
 use Rattle.partitions.specs.LayoutFaults.{may_hash, with_part}
 use Rattle.partitions.specs.LayoutRules.{IsLayout, parts_fit, fit_after}
 use Rattle.partitions.specs.Ranges.{ranges_type}

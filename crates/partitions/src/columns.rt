@@ -1,5 +1,6 @@
 // Columns by their names.
 ghost use Rattle.std.specs.Prelude.{◌≡◌, IfOk};
+ghost use Rattle.schema_models.specs.CellsByName as by_name;
 ghost use Rattle.partitions.specs.Columns as columns;
 
 use dl_values::{ColType, Name, NoMemory};
@@ -9,7 +10,7 @@ use std::alloc::Global;
 
 // The names of columns, in their order.
 pub fn names_of(alloc: Global, defs: &[ColumnDef]) -> Result<Items<Name>, NoMemory>
-    ensures { IfOk result (λ v. v ≡ columns.names_of defs.now) }
+    ensures { IfOk result (λ v. v ≡ by_name.names_of defs.now) }
 {
     let mut all = Items::new(alloc);
     for column in defs {
