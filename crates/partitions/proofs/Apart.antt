@@ -21,26 +21,18 @@ use Rattle.partitions.specs.Ranges.{are_apart, are_bounds, ends_before, is_betwe
 use Rattle.partitions.specs.Places.{is_below, from_low, to_high, low_end, high_end, in_range, cell_in, holds_row}
 use Rattle.partitions.specs.declared.part_def.PartDef.{PartDef}
 use Rattle.partitions.specs.declared.part_def.Bounds.{Bounds}
-
-and_left : (a b : Bool) → (a && b) ≡ true → a ≡ true
-and_left true b h = refl
-and_left false b h = h
-
-and_right : (a b : Bool) → (a && b) ≡ true → b ≡ true
-and_right true b h = h
-and_right false b h = absurd (cc)
-
-not_not : (a : Bool) → not (not a) ≡ true → a ≡ true
-not_not true h = refl
-not_not false h = absurd (cc)
+use Rattle.partitions.proofs.Bools.{and_left, and_right, both, not_not}
 
 lt_is : (o : Ordering) → is_lt o ≡ true → o ≡ Less
 lt_is Less h = refl
 lt_is Equal h = absurd (cc)
 lt_is Greater h = absurd (cc)
 
+pub below_trans : (a b c : Cell) → is_below a b ≡ true → is_below b c ≡ true → is_below a c ≡ true
+below_trans a b c h k = ap is_lt (cells_total.trans a b c (lt_is (cell_cmp a b) h) (lt_is (cell_cmp b c) k))
+
 -- x below high, and not below low: low is below high
-between : (x low high : Cell) → is_below x high ≡ true → not (is_below x low) ≡ true → is_below low high ≡ true
+pub between : (x low high : Cell) → is_below x high ≡ true → not (is_below x low) ≡ true → is_below low high ≡ true
 between x low high a b = go (cell_cmp x low) refl
   where
     go : (o : Ordering) → cell_cmp x low ≡ o → is_below low high ≡ true
@@ -51,7 +43,7 @@ between x low high a b = go (cell_cmp x low) refl
         ap is_lt (cells_total.trans low x high k (lt_is (cell_cmp x high) a))
 
 -- a range that ends before another begins has no cell of it
-ended : (high low : Option Cell) (x : Cell) → ends_before high low ≡ true → to_high high x ≡ true → from_low low x ≡ true → ⊥
+pub ended : (high low : Option Cell) (x : Cell) → ends_before high low ≡ true → to_high high x ≡ true → from_low low x ≡ true → ⊥
 ended None low x e h f = absurd (cc)
 ended (Some high) None x e h f = absurd (cc)
 ended (Some high) (Some low) x e h f = let k = between x low high h f in let n : not (is_below low high) ≡ false = ap not k in cc (n, e)
@@ -77,9 +69,6 @@ has_later p before q h test k = h test (front before k)
     front : (xs : List PartDef) → list_all test (xs ++ q ∷ []) ≡ true → list_all test xs ≡ true
     front [] e = refl
     front (x ∷ xs) e = both (test x) (list_all test xs) (and_left (test x) (list_all test (xs ++ q ∷ [])) e) (front xs (and_right (test x) (list_all test (xs ++ q ∷ [])) e))
-      where
-        both : (a b : Bool) → a ≡ true → b ≡ true → (a && b) ≡ true
-        both a b e f = rw (e, f) refl
 
 has_new : (before : List PartDef) (q : PartDef) → Has q (before ++ q ∷ [])
 has_new [] q test k = and_left (test q) true k

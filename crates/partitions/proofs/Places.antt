@@ -30,16 +30,9 @@ use Rattle.partitions.specs.LayoutRules.{IsLayout, parts_fit, fit_after}
 use Rattle.partitions.specs.Ranges.{ranges_type}
 use Rattle.partitions.specs.Places.{Place, cell_in, holds_row, next_part, first_part, part_of, text_of, hash_bytes, bucket_of, placed, place_in, place_for, is_at, rows_at, IsInside, AreInside, buckets_at, tablets_of, spread}
 use Rattle.partitions.specs.declared.part_def.PartDef.{PartDef}
+use Rattle.partitions.proofs.Bools.{and_left, and_right}
 
 -- ---- the key decides the place
-
-and_left : (a b : Bool) → (a && b) ≡ true → a ≡ true
-and_left true b h = refl
-and_left false b h = h
-
-and_right : (a b : Bool) → (a && b) ≡ true → b ≡ true
-and_right true b h = h
-and_right false b h = absurd (cc)
 
 -- a cell under the name of a key is one of the key
 later_cell : (c : ColumnDef) (cs : List ColumnDef) (name : List ℕ) (x : Cell) (xs : List Cell) (b : Bool) → bytes_eq c.name name ≡ b → (b || is_key_name cs name) ≡ true → (is_key_name cs name ≡ true → cell_under (names_of cs) name (take (key_count cs) xs) ≡ cell_under (names_of cs) name xs)
@@ -121,10 +114,6 @@ placing s l v w rows = placed_fold s l v (is_at w) rows
 fold_none : (s : ShapeView) → fold_of s [] ≡ []
 unfolding folded
 fold_none s = refl
-
-not_true : (b : Bool) → not b ≡ false → b ≡ true
-not_true true h = refl
-not_true false h = absurd (cc)
 
 none_kept : {X : Type 0} (p : X → Bool) (xs : List X) → AllByRecursion (λ x. p x ≡ true) xs → filter (λ x. not (p x)) xs ≡ []
 none_kept p xs a = filter_none (λ x. not (p x)) xs (all_weaker (λ x. p x ≡ true) (λ x. not (p x) ≡ false) (λ x e. ap not e) xs a)

@@ -2,11 +2,16 @@
 #![tactic(auto)]
 
 mod columns;
+mod hash;
 pub mod laws;
 mod layout;
 mod layout_error;
+mod order;
 mod part_def;
 mod parts_def;
+mod positions;
+mod ranges;
+mod search;
 
 pub use layout::Layout;
 pub use layout_error::LayoutError;
