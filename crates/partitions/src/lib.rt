@@ -2,6 +2,7 @@
 #![tactic(auto)]
 
 mod columns;
+mod faults;
 mod hash;
 pub mod laws;
 mod layout;

@@ -22,7 +22,7 @@ pub enum Bounds {
     Between(Option<Cell>, Option<Cell>),
 }
 
-pub fn copy_bound(alloc: Global, bound: &Option<Cell>) -> Result<Option<Cell>, NoMemory>
+fn copy_bound(alloc: Global, bound: &Option<Cell>) -> Result<Option<Cell>, NoMemory>
     ensures { IfOk result (λ c. c ≡ bound.now) }
 {
     match bound {

@@ -1,11 +1,12 @@
 // The ranges of partitions.
 ghost use Rattle.std.specs.Prelude.{◌≡◌, ◌++◌, [], IfOk};
+ghost use Rattle.std.specs.Option.{option_copied};
 ghost use Rattle.partitions.specs.Places as places;
 ghost use Rattle.partitions.specs.Ranges as ranges;
 
-use crate::part_def::copy_bound;
+use crate::part_def::copy_part;
 use crate::{Bounds, PartDef};
-use dl_values::{Cell, ColType, NoMemory, compare_cells};
+use dl_values::{Cell, ColType, NoMemory, compare_cells, copy_cell};
 use schema_models::is_of_type;
 use sqlite_items::Items;
 use std::alloc::Global;
@@ -119,4 +120,108 @@ pub fn are_apart(a: &Bounds, b: &Bounds) -> bool
     ensures { result ≡ ranges.are_apart a.now b.now }
 {
     lies_before(a, b) || lies_before(b, a)
+}
+
+// The greater of an end, where there is one, and another.
+fn later_end<'a>(low: Option<&'a Cell>, end: &'a Cell) -> Option<&'a Cell>
+    ensures { option_copied result ≡ ranges.later_end (option_copied low.entry) end.now }
+{
+    match low {
+        None => Some(end),
+        Some(other) => {
+            if is_below(other, end) {
+                Some(end)
+            } else {
+                Some(other)
+            }
+        }
+    }
+}
+
+// Whether an end is below the high end of a range.
+fn ends_below(high: &Option<Cell>, end: &Cell) -> bool
+    ensures { result ≡ ranges.ends_below high.now end.now }
+{
+    match high {
+        None => true,
+        Some(high) => is_below(end, high),
+    }
+}
+
+// The low end for a high one, after a range and with what the ranges behind it give.
+fn low_with<'a>(
+    high: &Option<Cell>,
+    bounds: &'a Bounds,
+    low: Option<&'a Cell>,
+) -> Option<&'a Cell>
+    ensures { option_copied result ≡ ranges.low_with high.now (places.high_end bounds.now) (option_copied low.entry) }
+{
+    match high_end(bounds) {
+        None => low,
+        Some(end) => {
+            if ends_below(high, end) {
+                later_end(low, end)
+            } else {
+                low
+            }
+        }
+    }
+}
+
+// The greatest high end that is below another one.
+fn low_for<'a>(parts: &'a [PartDef], high: &Option<Cell>) -> Option<&'a Cell>
+    ensures { option_copied result ≡ ranges.low_for high.now parts.now }
+{
+    let mut low = None;
+    let mut left = parts.len();
+    while left > 0 {
+        left -= 1;
+        low = low_with(high, &parts[left].bounds, low);
+    }
+    low
+}
+
+// A cell of its own, where there is one.
+fn copied(alloc: Global, cell: Option<&Cell>) -> Result<Option<Cell>, NoMemory>
+    ensures { IfOk result (λ c. c ≡ option_copied cell.entry) }
+{
+    match cell {
+        None => Ok(None),
+        Some(cell) => Ok(Some(copy_cell(alloc, cell)?)),
+    }
+}
+
+// Bounds as a range behind these partitions.
+fn bounds_after(alloc: Global, before: &[PartDef], bounds: Bounds) -> Result<Bounds, NoMemory>
+    ensures { IfOk result (λ b. b ≡ ranges.bounds_after before.now bounds) }
+{
+    match bounds {
+        Bounds::Less(high) => {
+            let low = copied(alloc, low_for(before, &high))?;
+            Ok(Bounds::Between(low, high))
+        }
+        Bounds::Between(low, high) => Ok(Bounds::Between(low, high)),
+    }
+}
+
+// A partition with its range behind these.
+pub fn with_range(alloc: Global, before: &[PartDef], part: PartDef) -> Result<PartDef, NoMemory>
+    ensures { IfOk result (λ p. p ≡ ranges.with_range before.now part) }
+{
+    let PartDef { name, bounds } = part;
+    let bounds = bounds_after(alloc, before, bounds)?;
+    Ok(PartDef { name, bounds })
+}
+
+// Partitions with their ranges, each behind those before it.
+pub fn ranged(alloc: Global, parts: &[PartDef]) -> Result<Items<PartDef>, NoMemory>
+    ensures { IfOk result (λ v. v ≡ ranges.ranged [] parts.now) }
+{
+    let mut all = Items::new(alloc);
+    for part in parts {
+        let copy = copy_part(alloc, part)?;
+        let part = with_range(alloc, all.as_slice(), copy)?;
+        all.push(part)?;
+    }
+    Ok(all)
 }
