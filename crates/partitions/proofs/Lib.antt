@@ -6,3 +6,4 @@ pub mod Growing
 pub mod Carried
 pub mod Hashes
 pub mod Finding
+pub mod Tested

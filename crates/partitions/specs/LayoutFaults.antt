@@ -92,16 +92,21 @@ layout_fault s def hash buckets = first_of (layout_faults s def hash buckets)
 abbrev pub defined : ShapeView → PartsDef → List (List ℕ) → ℕ → LayoutView
 defined s def hash buckets = layout_of s (column_of def) (parts_of def) hash buckets
 
--- what may be wrong with a partition that is added
-abbrev pub add_faults : LayoutView → PartDef → List (Option LayoutError)
-add_faults l p =
+-- what may be wrong with a partition that is added, as it is written
+abbrev pub part_faults : LayoutView → PartDef → List (Option LayoutError)
+part_faults l p =
     refuse_if (is_none l.column) layout_error.NotPartitioned
     ∷ refuse_if (not (are_bounds l.kind p.bounds)) (layout_error.BadBound p.name)
     ∷ refuse_if (not (is_name p.name)) (layout_error.BadName p.name)
     ∷ refuse_if (is_named_in l.parts p) (layout_error.DoubleName p.name)
-    ∷ refuse_if (meets l.parts (with_range l.parts p)) (layout_error.Overlap p.name)
-    ∷ refuse_if (nat_le 1000 (length l.parts)) layout_error.TooManyPartitions
     ∷ []
+
+-- and then with its range beside the others
+abbrev pub room_faults : List PartDef → PartDef → List (Option LayoutError)
+room_faults parts p = refuse_if (meets parts p) (layout_error.Overlap p.name) ∷ refuse_if (nat_le 1000 (length parts)) layout_error.TooManyPartitions ∷ []
+
+abbrev pub add_faults : LayoutView → PartDef → List (Option LayoutError)
+add_faults l p = part_faults l p ++ room_faults l.parts (with_range l.parts p)
 
 abbrev pub add_fault : LayoutView → PartDef → Option LayoutError
 add_fault l p = first_of (add_faults l p)

@@ -1,18 +1,21 @@
 // What may be wrong with a layout.
-ghost use Rattle.std.specs.Prelude.{◌≡◌, [], find, not, length, nat_le};
+ghost use Rattle.std.specs.Prelude.{◌≡◌, ◌++◌, [], find, not, length, nat_le, IfOk};
 ghost use Rattle.std.specs.List.{list_all};
 ghost use Rattle.std.specs.Option.{option_copied, option_map};
 ghost use Rattle.partitions.specs.LayoutFaults as faults;
+ghost use Rattle.partitions.specs.LayoutView.{LayoutView};
 ghost use Rattle.partitions.specs.Ranges as ranges;
 ghost use Rattle.partitions.specs.declared.layout_error.LayoutError.TheVariants as layout_error;
 ghost use Rattle.schema_models.specs.Faults.{first_of, refuse_if};
 ghost use Rattle.schema_models.specs.Names as names;
 
 use crate::columns::{is_column_name, is_key_name, type_of, type_under};
-use crate::ranges::{are_apart, are_bounds, ranges_type};
+use crate::part_def::copy_part;
+use crate::ranges::{are_apart, are_bounds, ranged, ranges_type, with_range};
 use crate::{LayoutError, PartDef};
 use dl_values::{ColType, Name};
 use schema_models::{ColumnDef, Model, Shape, is_name};
+use sqlite_items::Items;
 use std::alloc::Global;
 
 // The first of these names that no column has.
@@ -63,7 +66,9 @@ fn may_hash(model: Model, columns: &[ColumnDef], name: &Name) -> bool
 fn no_hash_in<'a>(shape: &Shape, names: &'a [Name]) -> Option<&'a Name>
     ensures { option_copied result ≡ faults.no_hash_in shape.now names.now }
 {
-    names.iter().find(|name| !may_hash(shape.model(), shape.columns(), name))
+    names
+        .iter()
+        .find(|name| !may_hash(shape.model(), shape.columns(), name))
 }
 
 // The first of a partition column and distribution columns that may not be one.
@@ -131,11 +136,7 @@ fn bad_bounds_in(kind: Option<ColType>, parts: &[PartDef]) -> Option<&PartDef>
     parts.iter().find(|part| !are_bounds(kind, &part.bounds))
 }
 
-fn test_bounds(
-    alloc: Global,
-    kind: Option<ColType>,
-    parts: &[PartDef],
-) -> Result<(), LayoutError>
+fn test_bounds(alloc: Global, kind: Option<ColType>, parts: &[PartDef]) -> Result<(), LayoutError>
     ensures { faults.Tests (option_map layout_error.BadBound (faults.first_with (λ p. not (ranges.are_bounds kind p.bounds)) parts.now)) result }
 {
     match bad_bounds_in(kind, parts) {
@@ -175,7 +176,9 @@ pub fn is_named_in(before: &[PartDef], part: &PartDef) -> bool
 fn are_apart_from(before: &[PartDef], part: &PartDef) -> bool
     ensures { result ≡ list_all (λ q. ranges.are_apart q.bounds part.now.bounds) before.now }
 {
-    before.iter().all(|other| are_apart(&other.bounds, &part.bounds))
+    before
+        .iter()
+        .all(|other| are_apart(&other.bounds, &part.bounds))
 }
 
 // Whether one of these partitions has a value in common with another.
@@ -266,4 +269,104 @@ pub fn test_ranged(alloc: Global, parts: &[PartDef]) -> Result<(), LayoutError>
 {
     test_overlaps(alloc, parts)?;
     test_count(parts)
+}
+
+// What may be wrong with a partition that is added, as it is written.
+pub fn test_part(
+    alloc: Global,
+    column: &Option<Name>,
+    kind: Option<ColType>,
+    parts: &[PartDef],
+    part: &PartDef,
+) -> Result<(), LayoutError>
+    ensures { (l : LayoutView) → l.column ≡ column.now → l.kind ≡ kind → l.parts ≡ parts.now → faults.Tests (first_of (faults.part_faults l part.now)) result }
+{
+    if column.is_none() {
+        return Err(LayoutError::NotPartitioned);
+    }
+    let partition = part.name.copy(alloc)?;
+    if !are_bounds(kind, &part.bounds) {
+        return Err(LayoutError::BadBound { partition });
+    }
+    if !is_name(part.name.bytes()) {
+        return Err(LayoutError::BadName { partition });
+    }
+    if is_named_in(parts, part) {
+        return Err(LayoutError::DoubleName { partition });
+    }
+    Ok(())
+}
+
+// What may be wrong with a partition with its range beside the others.
+pub fn test_room(alloc: Global, parts: &[PartDef], part: &PartDef) -> Result<(), LayoutError>
+    ensures { faults.Tests (first_of (faults.room_faults parts.now part.now)) result }
+{
+    if meets(parts, part) {
+        return Err(LayoutError::Overlap {
+            partition: part.name.copy(alloc)?,
+        });
+    }
+    if parts.len() >= 1000 {
+        return Err(LayoutError::TooManyPartitions);
+    }
+    Ok(())
+}
+
+// The partitions with their ranges, where nothing is wrong with these.
+fn apart_parts(alloc: Global, parts: &[PartDef]) -> Result<Items<PartDef>, LayoutError>
+    ensures made { IfOk result (λ ps. ps ≡ ranges.ranged [] parts.now) }
+    ensures tested { faults.Tests (first_of (faults.ranged_faults (ranges.ranged [] parts.now))) result }
+{
+    let parts = ranged(alloc, parts)?;
+    match test_ranged(alloc, parts.as_slice()) {
+        Ok(()) => Ok(parts),
+        Err(fault) => Err(fault),
+    }
+}
+
+// The partitions with their ranges, where nothing is wrong with them, the columns and the buckets.
+pub fn tested_parts(
+    alloc: Global,
+    shape: &Shape,
+    column: &Option<Name>,
+    parts: &[PartDef],
+    hash: &[Name],
+    buckets: u32,
+) -> Result<Items<PartDef>, LayoutError>
+    ensures made { IfOk result (λ ps. ps ≡ ranges.ranged [] parts.now) }
+    ensures tested { faults.Tests (first_of (faults.written_faults shape.now column.now parts.now hash.now buckets ++ faults.ranged_faults (ranges.ranged [] parts.now))) result }
+{
+    match test_written(alloc, shape, column, parts, hash, buckets) {
+        Ok(()) => apart_parts(alloc, parts),
+        Err(fault) => Err(fault),
+    }
+}
+
+// A further partition with its range, where nothing is wrong with that.
+fn apart_part(alloc: Global, parts: &[PartDef], part: &PartDef) -> Result<PartDef, LayoutError>
+    ensures made { IfOk result (λ p. p ≡ ranges.with_range parts.now part.now) }
+    ensures tested { faults.Tests (first_of (faults.room_faults parts.now (ranges.with_range parts.now part.now))) result }
+{
+    let part = with_range(alloc, parts, copy_part(alloc, part)?)?;
+    match test_room(alloc, parts, &part) {
+        Ok(()) => Ok(part),
+        Err(fault) => Err(fault),
+    }
+}
+
+// A further partition with its range, where nothing is wrong with it.
+pub fn tested_part(
+    alloc: Global,
+    column: &Option<Name>,
+    kind: Option<ColType>,
+    parts: &[PartDef],
+    part: &PartDef,
+) -> Result<PartDef, LayoutError>
+    ensures made { IfOk result (λ p. p ≡ ranges.with_range parts.now part.now) }
+    ensures tested { (l : LayoutView) → l.column ≡ column.now → l.kind ≡ kind → l.parts ≡ parts.now → faults.Tests (faults.add_fault l part.now) result }
+{
+    match test_part(alloc, column, kind, parts, part) {
+        Ok(()) => apart_part(alloc, parts, part),
+        Err(fault) => Err(fault),
+    }
 }

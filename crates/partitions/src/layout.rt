@@ -3,13 +3,15 @@ ghost use Rattle.std.specs.Prelude.{◌≡◌, IfOk};
 ghost use Rattle.std.specs.Option.{option_copied};
 ghost use Rattle.partitions.specs.Search as search;
 
-use crate::PartDef;
 use crate::columns::{copy_name, copy_names, names_of, type_of};
+use crate::faults::{tested_part, tested_parts};
 use crate::hash::hash_cells;
-use crate::order::order_of;
-use crate::part_def::{copy_parts, whole_part};
+use crate::order::{order_of, with_number};
+use crate::part_def::{copy_parts, push_part, whole_part};
+use crate::parts_def::split;
 use crate::positions::{column_position, positions_of};
 use crate::search::part_with;
+use crate::{LayoutError, PartDef, PartsDef};
 use dl_values::{Cell, ColType, Name, NoMemory, Row};
 use schema_models::Shape;
 use sqlite_items::Items;
@@ -45,9 +47,10 @@ impl Model for Layout {
 }
 
 impl Layout {
-    ghost use Rattle.std.specs.Prelude.{[], None, Some, true, MatchOption};
+    ghost use Rattle.std.specs.Prelude.{[], None, Some, false, true, MatchOption, OnErr, OnOk};
     ghost use Rattle.std.specs.List.{list_all};
     ghost use Rattle.partitions.specs.LayoutFaults.{first_beside, meets};
+    ghost use Rattle.partitions.specs.LayoutFaults as faults;
     ghost use Rattle.partitions.specs.LayoutView.{layout_of, over, whole};
     ghost use Rattle.partitions.specs.Places.{high_end, low_end};
     ghost use Rattle.partitions.specs.Places as places;
@@ -81,6 +84,52 @@ impl Layout {
             column_at,
             hash_at,
         })
+    }
+
+    /// The layout of a definition for rows of this shape, or its first fault: variant by variant in the order of the
+    /// error, each over all columns or partitions. `LESS THAN` begins at the greatest high end below its own one among the
+    /// partitions written before it.
+    #[tactic(auto, unfolding(crate::specs::LayoutFaults::layout_fault))]
+    pub fn build(
+        alloc: Global,
+        shape: &Shape,
+        parts: PartsDef,
+        hash: Items<Name>,
+        buckets: u32,
+    ) -> Result<Layout, LayoutError>
+        ensures built { IfOk result (λ l. l ≡ faults.defined shape.now parts hash buckets) }
+        ensures tested { faults.Tests (faults.layout_fault shape.now parts hash buckets) result }
+    {
+        let (column, written) = split(alloc, parts)?;
+        let hashed = hash.as_slice();
+        let parts = tested_parts(alloc, shape, &column, written.as_slice(), hashed, buckets)?;
+        Ok(Layout::of_parts(alloc, shape, column, parts, hash, buckets)?)
+    }
+
+    // Adds a partition that lies apart from the others.
+    fn push(&mut self, alloc: Global, part: PartDef) -> Result<(), NoMemory>
+        requires apart { meets self.old.parts part ≡ false }
+        requires rise { ends_rise (low_end part.bounds) (high_end part.bounds) ≡ true }
+        ensures ok { OnOk result (self.new ≡ faults.with_part part self.old) }
+        ensures err { OnErr result (self.new ≡ self.old) }
+    {
+        let parts = self.parts.as_slice();
+        let order = with_number(alloc, parts, self.order.as_slice(), &part.bounds)?;
+        push_part(&mut self.parts, part)?;
+        self.order = order;
+        Ok(())
+    }
+
+    /// Adds a partition behind the others, or tells its first fault and changes nothing.
+    pub fn add(&mut self, alloc: Global, part: PartDef) -> Result<(), LayoutError>
+        ensures ok { OnOk result (self.new ≡ faults.added part self.old) }
+        ensures err { OnErr result (self.new ≡ self.old) }
+        ensures tested { faults.Tests (faults.add_fault self.old part) result }
+    {
+        let parts = self.parts.as_slice();
+        let part = tested_part(alloc, &self.column, self.kind, parts, &part)?;
+        self.push(alloc, part)?;
+        Ok(())
     }
 
     /// One partition without ends for rows of this shape, which has the table's name.

@@ -149,11 +149,7 @@ fn ends_below(high: &Option<Cell>, end: &Cell) -> bool
 }
 
 // The low end for a high one, after a range and with what the ranges behind it give.
-fn low_with<'a>(
-    high: &Option<Cell>,
-    bounds: &'a Bounds,
-    low: Option<&'a Cell>,
-) -> Option<&'a Cell>
+fn low_with<'a>(high: &Option<Cell>, bounds: &'a Bounds, low: Option<&'a Cell>) -> Option<&'a Cell>
     ensures { option_copied result ≡ ranges.low_with high.now (places.high_end bounds.now) (option_copied low.entry) }
 {
     match high_end(bounds) {

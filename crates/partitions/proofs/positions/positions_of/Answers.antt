@@ -12,7 +12,7 @@ loop-name-preserved c =
     let d = c.name-item.result in
     let so_far = c.loop-name.positions.items in
     let pushed : c.push_position.new.positions.items ≡ so_far ++ search.with_position (search.position_of names (slice_index_or wanted i d)) [] =
-        cc (c.in_ok-push_position.ensures, c.position_of.ensures, c.name-item.is) in
+    cc (c.in_ok-push_position.ensures, c.position_of.ensures, c.name-item.is) in
     ap (λ (l : List ℕ). l ++ search.positions_of names (drop (i + 1) wanted)) pushed ∙ positions_step names wanted i d so_far (omega arith) ∙ c.loop-name.invariant
 
 pub returns : goal.returns
