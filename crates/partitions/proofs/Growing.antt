@@ -21,7 +21,7 @@ index_last : {X : Type 0} (xs : List X) (y d : X) → slice_index_or (xs ++ y �
 index_last [] y d = refl
 index_last (x ∷ xs) y d = index_last xs y d
 
-length_more : {X : Type 0} (xs : List X) (y : X) → length (xs ++ y ∷ []) ≡ length xs + 1
+pub length_more : {X : Type 0} (xs : List X) (y : X) → length (xs ++ y ∷ []) ≡ length xs + 1
 length_more [] y = refl
 length_more (x ∷ xs) y = let k = length_more xs y in omega (arith, k)
 

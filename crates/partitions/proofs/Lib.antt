@@ -7,3 +7,4 @@ pub mod Carried
 pub mod Hashes
 pub mod Finding
 pub mod Tested
+pub mod Valid

@@ -91,7 +91,7 @@ range_rises t before p h = go p.bounds h
     go (Less high) h = low_rises high before
     go (Between low high) h = and_right (is_end t low && is_end t high) (ends_rise low high) h
 
-all_more : {X : Type 0} (test : X → Bool) (xs : List X) (x : X) → list_all test xs ≡ true → test x ≡ true → list_all test (xs ++ x ∷ []) ≡ true
+pub all_more : {X : Type 0} (test : X → Bool) (xs : List X) (x : X) → list_all test xs ≡ true → test x ≡ true → list_all test (xs ++ x ∷ []) ≡ true
 all_more test [] x h e = both (test x) true e refl
 all_more test (y ∷ ys) x h e = both (test y) (list_all test (ys ++ x ∷ [])) (and_left (test y) (list_all test ys) h) (all_more test ys x (and_right (test y) (list_all test ys) h) e)
 
@@ -124,7 +124,7 @@ rise_of s column parts hash buckets e =
     let bounds = (none_all (written_faults s column parts hash buckets) e).1.1.1.0 in
     all_rise (type_of s.columns column) parts (none_mapped layout_error.BadBound (first_with (λ p. not (are_bounds (type_of s.columns column) p.bounds)) parts) bounds)
 
-front_of_none : {E : Type 0} (xs ys : List (Option E)) → first_of (xs ++ ys) ≡ None → first_of xs ≡ None
+pub front_of_none : {E : Type 0} (xs ys : List (Option E)) → first_of (xs ++ ys) ≡ None → first_of xs ≡ None
 front_of_none [] ys e = refl
 front_of_none (None ∷ xs) ys e = front_of_none xs ys e
 front_of_none (Some x ∷ xs) ys e = absurd (cc)

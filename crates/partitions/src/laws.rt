@@ -1,16 +1,24 @@
 //! Laws of layouts: each function does nothing, and its contract is the law.
-ghost use Rattle.std.specs.Prelude.{◌≡◌, ◌≤◌, ◌<◌, ◌∷◌, ◌++◌, Bool, true, false, List, Option, Some, length, map};
+ghost use Rattle.std.specs.Prelude.{ℕ, None, ◌≡◌, ◌≤◌, ◌<◌, ◌∷◌, ◌++◌, Bool, true, false, List, Option, Some, length, map};
 ghost use Rattle.std.specs.Ordering.{is_eq};
 ghost use Rattle.dl_values.specs.Order.{row_cmp};
 ghost use Rattle.std.specs.List.{AllByRecursion, filter, flat_map};
 ghost use Rattle.dl_values.specs.declared.cell.Cell.{Cell};
 ghost use Rattle.schema_models.specs.Folds.{fold_of, key_of};
 ghost use Rattle.schema_models.specs.ShapeView.{ShapeView};
-ghost use Rattle.partitions.specs.LayoutFaults.{with_part};
+ghost use Rattle.partitions.specs.LayoutFaults.{add_fault, added, defined, layout_fault, with_part};
 ghost use Rattle.partitions.specs.LayoutRules.{IsLayout};
 ghost use Rattle.partitions.specs.LayoutView.{LayoutView};
 ghost use Rattle.partitions.specs.Places.{AreInside, IsInside, Place, holds_row, place_for, rows_at, spread, tablets_of};
 ghost use Rattle.partitions.specs.declared.part_def.PartDef.{PartDef};
+ghost use Rattle.partitions.specs.declared.parts_def.PartsDef.{PartsDef};
+
+/// What a definition without a fault gives is a valid layout, and so is a valid layout with a partition more that has no
+/// fault.
+pub fn what_is_defined_is_a_layout()
+    ensures built { (s : ShapeView) (def : PartsDef) (hash : List (List ℕ)) (buckets : ℕ) → layout_fault s def hash buckets ≡ None → IsLayout s (defined s def hash buckets) }
+    ensures added { (s : ShapeView) (l : LayoutView) (p : PartDef) → IsLayout s l → add_fault l p ≡ None → IsLayout s (added p l) }
+{}
 
 /// A row has one place at most, which its key decides; and a partition more moves no row.
 pub fn a_row_has_one_place()
