@@ -174,7 +174,7 @@ defined_valid s def hash buckets e = record {
   hash = none_found (may_hash s.model s.columns) hash (keys s def hash buckets e).1;
   buckets = not_false (are_buckets buckets) (none_refused (not (are_buckets buckets)) layout_error.BadBuckets (none_all (written_faults s (column_of def) (written def) hash buckets) (front s def hash buckets e)).1.1.0);
   parts = parts_fit_of s def hash buckets e;
-  few = not_false (nat_le (length (parts_of def)) 1000) (none_refused (not (nat_le (length (parts_of def)) 1000)) layout_error.TooManyPartitions (none_all (ranged_faults (parts_of def)) (back s def hash buckets e)).1.0)
+  few = not_false (nat_le (length (parts_of def)) 1000) (none_refused (not (nat_le (length (parts_of def)) 1000)) layout_error.TooManyPartitions (none_all (ranged_faults (parts_of def)) (back s def hash buckets e)).1.0);
 }
 
 -- ---- a partition more
@@ -218,10 +218,10 @@ added_valid s l p v e =
       hash = v.hash;
       buckets = v.buckets;
       parts = more_fit s.columns l.column l.kind l.parts p v.kind v.parts
-        (some_column l.column (none_refused (is_none l.column) layout_error.NotPartitioned front.0))
-        (not_false (are_bounds l.kind p.bounds) (none_refused (not (are_bounds l.kind p.bounds)) (layout_error.BadBound p.name) front.1.0))
-        (not_false (is_name p.name) (none_refused (not (is_name p.name)) (layout_error.BadName p.name) front.1.1.0))
-        (none_refused (is_named_in l.parts p) (layout_error.DoubleName p.name) front.1.1.1.0)
-        (none_refused (meets l.parts (with_range l.parts p)) (layout_error.Overlap p.name) back.0);
-      few = few_more l.parts (with_range l.parts p) (none_refused (nat_le 1000 (length l.parts)) layout_error.TooManyPartitions back.1.0)
+          (some_column l.column (none_refused (is_none l.column) layout_error.NotPartitioned front.0))
+          (not_false (are_bounds l.kind p.bounds) (none_refused (not (are_bounds l.kind p.bounds)) (layout_error.BadBound p.name) front.1.0))
+          (not_false (is_name p.name) (none_refused (not (is_name p.name)) (layout_error.BadName p.name) front.1.1.0))
+          (none_refused (is_named_in l.parts p) (layout_error.DoubleName p.name) front.1.1.1.0)
+          (none_refused (meets l.parts (with_range l.parts p)) (layout_error.Overlap p.name) back.0);
+      few = few_more l.parts (with_range l.parts p) (none_refused (nat_le 1000 (length l.parts)) layout_error.TooManyPartitions back.1.0);
     }

@@ -5,3 +5,4 @@ pub mod Ranges
 pub mod Search
 pub mod LayoutFaults
 pub mod LayoutRules
+pub mod Examples

@@ -18,5 +18,5 @@ invariant_of-self-2 c =
     record {
       ordered = subst (λ (ps : List PartDef). search.IsOrder ps c.in_ok-order.order.items) pushed (subst (λ (o : List ℕ). search.IsOrder (parts ++ part ∷ []) o) order grown);
       column = c.self.invariant.column;
-      hash = c.self.invariant.hash
+      hash = c.self.invariant.hash;
     }
