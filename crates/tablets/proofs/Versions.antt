@@ -76,5 +76,5 @@ past_short v (l ∷ ls) = go (nat_lt v l.last) (past_short v ls)
 pub replaced_is_tablet : (t : TabletView) (m : StoredList) → IsTablet t → IsListOf t.shape m.rowset → (room : ℕ) → IsTablet (record { shape = t.shape; lists = m ∷ lists_past m.last t.lists; room = room })
 replaced_is_tablet t m i o room = record {
   rising = (past_above m.last t.lists, past_rises m.last t.lists i.rising);
-  sorted = (o, past_all (λ x. IsListOf t.shape x.rowset) m.last t.lists i.sorted)
+  sorted = (o, past_all (λ x. IsListOf t.shape x.rowset) m.last t.lists i.sorted);
 }

@@ -1,11 +1,14 @@
 // The rowsets of one index, partition and bucket.
-ghost use Rattle.std.specs.Prelude.{◌≡◌, ◌+◌, ◌<◌, ◌≤◌, ◌∷◌, [], IfOk, OnErr, OnOk, length, map};
+ghost use Rattle.std.specs.Prelude.{◌≡◌, ◌+◌, ◌<◌, ◌≤◌, ◌∷◌, [], true, false, IfOk, MatchOption, OnErr, OnOk, length, map};
 ghost use Rattle.std.specs.Vec.{vec_capacity};
 ghost use Rattle.merge_read.specs.Lists.{stored};
 ghost use Rattle.rowsets.specs.RowsetView.{IsListOf, IsMadeFor};
+ghost use Rattle.tablets.specs.Compactions as compactions;
 ghost use Rattle.tablets.specs.TabletView as tablets;
 
 use crate::held::{Held, count_to};
+use crate::named::{are_there, first_version, last_version, versions_of};
+use crate::{Compacted, Compaction, Gone};
 use dl_outside::Steps;
 use dl_values::{NoMemory, Rows};
 use merge_read::read_all;
@@ -110,6 +113,54 @@ impl Tablet {
         };
         replace(&mut self.lists, held);
     }
+
+    /// All rowsets, to be merged, where there are five or more.
+    pub fn take_compaction(&self, alloc: Global) -> Result<Option<Compaction>, NoMemory>
+        ensures { IfOk result (λ o. MatchOption o (length self.now.lists < 5) (λ c. (5 ≤ length self.now.lists) × compactions.IsCompactionOf self.now c)) }
+    {
+        if self.lists.len() < 5 {
+            return Ok(None);
+        }
+        let compaction = compaction_of(alloc, &self.shape, &self.lists)?;
+        Ok(Some(compaction))
+    }
+
+    /// Puts a merged rowset in the place of those that it names, or tells that they do not stand first. Takes no memory,
+    /// and looks at no row.
+    pub fn give_compaction(&mut self, done: Compacted) -> Result<(), Gone>
+        requires { compactions.are_there done.versions self.old.lists ≡ true → IsMadeFor self.old.shape done.merged.value }
+        ensures ok { OnOk result ((compactions.are_there done.versions self.old.lists ≡ true) × (self.new ≡ compactions.compacted done.versions done.merged.value self.old)) }
+        ensures gone { OnErr result ((compactions.are_there done.versions self.old.lists ≡ false) × (self.new ≡ self.old)) }
+    {
+        let Compacted { versions, merged } = done;
+        if !are_there(versions.as_slice(), &self.lists) {
+            return Err(Gone);
+        }
+        vouch(&self.shape, &merged);
+        let held = Held {
+            first: first_version(versions.as_slice()),
+            last: last_version(versions.as_slice()),
+            rowset: merged,
+        };
+        replace(&mut self.lists, held);
+        Ok(())
+    }
+}
+
+// The rowsets of a tablet, to be merged.
+fn compaction_of(alloc: Global, shape: &Shape, lists: &[Held]) -> Result<Compaction, NoMemory>
+    ensures shape { IfOk result (λ c. c.shape ≡ shape.now) }
+    ensures versions { IfOk result (λ c. c.versions ≡ compactions.versions_of lists.now) }
+    ensures lists { IfOk result (λ c. map (λ l. l.value) c.lists ≡ map (λ l. l.rowset) lists.now) }
+{
+    let shape = shape.copy(alloc)?;
+    let versions = versions_of(alloc, lists)?;
+    let lists = shared(alloc, lists)?;
+    Ok(Compaction {
+        shape,
+        versions,
+        lists,
+    })
 }
 
 // Does nothing: a rowset that was made for a shape is sorted for it.
