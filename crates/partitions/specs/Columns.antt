@@ -1,20 +1,10 @@
 -- Columns by their names.
-use Rattle.std.specs.Prelude.{ℕ, Bool, true, false, cond, not, ◌&&◌, ◌||◌, List, [], ◌∷◌, Option, Some, None, map}
+use Rattle.std.specs.Prelude.{ℕ, Bool, true, false, cond, ◌&&◌, ◌||◌, List, [], ◌∷◌, Option, Some, None}
 use Rattle.std.specs.List.{list_any}
 use Rattle.std.specs.Str.{bytes_eq}
-use Rattle.dl_values.specs.declared.cell.Cell.{Cell}
 use Rattle.dl_values.specs.declared.col_type.ColType.{ColType}
 use Rattle.schema_models.specs.ShapeRules.{is_key}
 use Rattle.schema_models.specs.declared.column_def.ColumnDef.{ColumnDef}
-
-abbrev pub names_of : List ColumnDef → List (List ℕ)
-names_of columns = map (λ c. c.name) columns
-
--- the cell that stands under a name
-abbrev pub cell_under : List (List ℕ) → List ℕ → List Cell → Option Cell
-cell_under [] name row = None
-cell_under (n ∷ ns) name [] = None
-cell_under (n ∷ ns) name (x ∷ xs) = cond (bytes_eq n name) (Some x) (cell_under ns name xs)
 
 abbrev pub is_column_name : List ColumnDef → List ℕ → Bool
 is_column_name columns name = list_any (λ c. bytes_eq c.name name) columns

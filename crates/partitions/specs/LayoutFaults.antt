@@ -1,5 +1,5 @@
 -- What may be wrong with a layout: each variant is looked for over all columns or partitions, in their order, before the next (Apache Doris documentation, "Data Partitioning"; the limits are this project's own).
-use Rattle.std.specs.Prelude.{ℕ, Bool, true, false, cond, not, ◌&&◌, List, [], ◌∷◌, ◌++◌, Option, Some, None, find, length, nat_le, is_none}
+use Rattle.std.specs.Prelude.{◌≡◌, ◌⊎◌, ℕ, Bool, true, false, cond, not, ◌&&◌, List, [], ◌∷◌, ◌++◌, Option, Some, None, find, length, nat_le, is_none, Result, MatchResult}
 use Rattle.std.specs.List.{list_all, list_any}
 use Rattle.std.specs.Option.{option_map}
 use Rattle.std.specs.Str.{bytes_eq}
@@ -66,17 +66,23 @@ meets before p = not (list_all (λ (q : PartDef). are_apart q.bounds p.bounds) b
 abbrev pub are_buckets : ℕ → Bool
 are_buckets n = nat_le 1 n && nat_le n 64
 
-abbrev pub layout_faults : ShapeView → PartsDef → List (List ℕ) → ℕ → List (Option LayoutError)
-layout_faults s def hash buckets =
-    option_map layout_error.NoColumn (unknown_in s.columns (with_column (column_of def) hash))
-    ∷ option_map layout_error.NotAKey (no_key_in s (column_of def) hash)
+-- of the columns, the buckets, and the partitions as they are written
+abbrev pub written_faults : ShapeView → Option (List ℕ) → List PartDef → List (List ℕ) → ℕ → List (Option LayoutError)
+written_faults s column parts hash buckets =
+    option_map layout_error.NoColumn (unknown_in s.columns (with_column column hash))
+    ∷ option_map layout_error.NotAKey (no_key_in s column hash)
     ∷ refuse_if (not (are_buckets buckets)) layout_error.BadBuckets
-    ∷ option_map layout_error.BadBound (first_with (λ p. not (are_bounds (type_of s.columns (column_of def)) p.bounds)) (written def))
-    ∷ option_map layout_error.BadName (first_with (λ p. not (is_name p.name)) (written def))
-    ∷ option_map layout_error.DoubleName (first_beside is_named_in [] (written def))
-    ∷ option_map layout_error.Overlap (first_beside meets [] (parts_of def))
-    ∷ refuse_if (not (nat_le (length (written def)) 1000)) layout_error.TooManyPartitions
+    ∷ option_map layout_error.BadBound (first_with (λ p. not (are_bounds (type_of s.columns column) p.bounds)) parts)
+    ∷ option_map layout_error.BadName (first_with (λ p. not (is_name p.name)) parts)
+    ∷ option_map layout_error.DoubleName (first_beside is_named_in [] parts)
     ∷ []
+
+-- and of the partitions with their ranges
+abbrev pub ranged_faults : List PartDef → List (Option LayoutError)
+ranged_faults parts = option_map layout_error.Overlap (first_beside meets [] parts) ∷ refuse_if (not (nat_le (length parts) 1000)) layout_error.TooManyPartitions ∷ []
+
+abbrev pub layout_faults : ShapeView → PartsDef → List (List ℕ) → ℕ → List (Option LayoutError)
+layout_faults s def hash buckets = written_faults s (column_of def) (written def) hash buckets ++ ranged_faults (parts_of def)
 
 -- the first refusal of a definition, if there is one
 unfoldable pub layout_fault : ShapeView → PartsDef → List (List ℕ) → ℕ → Option LayoutError
@@ -86,16 +92,21 @@ layout_fault s def hash buckets = first_of (layout_faults s def hash buckets)
 abbrev pub defined : ShapeView → PartsDef → List (List ℕ) → ℕ → LayoutView
 defined s def hash buckets = layout_of s (column_of def) (parts_of def) hash buckets
 
--- what may be wrong with a partition that is added
-abbrev pub add_faults : LayoutView → PartDef → List (Option LayoutError)
-add_faults l p =
+-- what may be wrong with a partition that is added, as it is written
+abbrev pub part_faults : LayoutView → PartDef → List (Option LayoutError)
+part_faults l p =
     refuse_if (is_none l.column) layout_error.NotPartitioned
     ∷ refuse_if (not (are_bounds l.kind p.bounds)) (layout_error.BadBound p.name)
     ∷ refuse_if (not (is_name p.name)) (layout_error.BadName p.name)
     ∷ refuse_if (is_named_in l.parts p) (layout_error.DoubleName p.name)
-    ∷ refuse_if (meets l.parts (with_range l.parts p)) (layout_error.Overlap p.name)
-    ∷ refuse_if (nat_le 1000 (length l.parts)) layout_error.TooManyPartitions
     ∷ []
+
+-- and then with its range beside the others
+abbrev pub room_faults : List PartDef → PartDef → List (Option LayoutError)
+room_faults parts p = refuse_if (meets parts p) (layout_error.Overlap p.name) ∷ refuse_if (nat_le 1000 (length parts)) layout_error.TooManyPartitions ∷ []
+
+abbrev pub add_faults : LayoutView → PartDef → List (Option LayoutError)
+add_faults l p = part_faults l p ++ room_faults l.parts (with_range l.parts p)
 
 abbrev pub add_fault : LayoutView → PartDef → Option LayoutError
 add_fault l p = first_of (add_faults l p)
@@ -107,3 +118,7 @@ with_part p l = record l { parts = l.parts ++ p ∷ [] }
 -- with its range
 abbrev pub added : PartDef → LayoutView → LayoutView
 added p l = with_part (with_range l.parts p) l
+
+-- what a test answers: nothing where there is no fault, else the fault, where memory lasts
+abbrev pub Tests : {A : Type 0} → Option LayoutError → Result A LayoutError → Type 0
+Tests fault r = MatchResult r (λ _. fault ≡ None) (λ e. (e ≡ layout_error.NoMemory) ⊎ (fault ≡ Some e))

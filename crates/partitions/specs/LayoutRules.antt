@@ -6,7 +6,8 @@ use Rattle.dl_values.specs.declared.col_type.ColType.{ColType}
 use Rattle.schema_models.specs.Names.{is_name}
 use Rattle.schema_models.specs.ShapeView.{ShapeView}
 use Rattle.schema_models.specs.declared.column_def.ColumnDef.{ColumnDef}
-use Rattle.partitions.specs.Columns.{names_of, type_of, type_under}
+use Rattle.schema_models.specs.CellsByName.{names_of}
+use Rattle.partitions.specs.Columns.{type_of, type_under}
 use Rattle.partitions.specs.LayoutFaults.{are_buckets, is_named_in, may_hash, may_part, meets}
 use Rattle.partitions.specs.LayoutView.{LayoutView}
 use Rattle.partitions.specs.Ranges.{are_bounds, is_between}

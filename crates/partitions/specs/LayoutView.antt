@@ -2,7 +2,8 @@
 use Rattle.std.specs.Prelude.{ℕ, List, [], ◌∷◌, Option, None}
 use Rattle.dl_values.specs.declared.col_type.ColType.{ColType}
 use Rattle.schema_models.specs.ShapeView.{ShapeView}
-use Rattle.partitions.specs.Columns.{names_of, type_of}
+use Rattle.schema_models.specs.CellsByName.{names_of}
+use Rattle.partitions.specs.Columns.{type_of}
 use Rattle.partitions.specs.declared.part_def.PartDef.{PartDef}
 use Rattle.partitions.specs.declared.part_def.Bounds.TheVariants.{Between}
 

@@ -5,7 +5,7 @@ use Rattle.std.specs.Ordering.{is_lt}
 use Rattle.dl_values.specs.Order.{cell_cmp}
 use Rattle.dl_values.specs.Write.{cell_text}
 use Rattle.dl_values.specs.declared.cell.Cell.{Cell}
-use Rattle.partitions.specs.Columns.{cell_under}
+use Rattle.schema_models.specs.CellsByName.{cell_under}
 use Rattle.partitions.specs.LayoutView.{LayoutView}
 use Rattle.partitions.specs.declared.part_def.PartDef.{PartDef}
 use Rattle.partitions.specs.declared.part_def.Bounds.{Bounds}

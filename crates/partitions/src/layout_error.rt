@@ -1,5 +1,5 @@
 // What is wrong with a layout.
-use dl_values::Name;
+use dl_values::{Name, NoMemory};
 use thiserror::Error;
 
 /// The first thing that is wrong with a layout, in the order in which it is looked for.
@@ -32,4 +32,17 @@ pub enum LayoutError {
     /// There would be more than 1,000 partitions.
     #[error("there would be more than 1,000 partitions")]
     TooManyPartitions,
+    #[error("there is not enough memory")]
+    NoMemory,
+}
+
+impl From<NoMemory> for LayoutError {
+    ghost use Rattle.std.specs.Prelude.{◌≡◌};
+    ghost use Rattle.partitions.specs.declared.layout_error.LayoutError.TheVariants as error;
+
+    ghost from_gives = { λ _ e. e ≡ error.NoMemory };
+
+    fn from(_: NoMemory) -> LayoutError {
+        LayoutError::NoMemory
+    }
 }

@@ -1,5 +1,5 @@
 // One partition of a table.
-ghost use Rattle.std.specs.Prelude.{◌≡◌, ◌∷◌, [], IfOk};
+ghost use Rattle.std.specs.Prelude.{◌≡◌, ◌∷◌, ◌++◌, [], IfOk, OnErr, OnOk};
 ghost use Rattle.partitions.specs.LayoutView as layouts;
 
 use dl_values::{Cell, Name, NoMemory, copy_cell};
@@ -73,4 +73,13 @@ pub fn whole_part(alloc: Global, name: Name) -> Result<Items<PartDef>, NoMemory>
         bounds: Bounds::Between(None, None),
     })?;
     Ok(parts)
+}
+
+// Adds a partition at the end.
+pub fn push_part(parts: &mut Items<PartDef>, part: PartDef) -> Result<(), NoMemory>
+    ensures ok { OnOk result (parts.new ≡ parts.old ++ part ∷ []) }
+    ensures err { OnErr result (parts.new ≡ parts.old) }
+{
+    parts.push(part)?;
+    Ok(())
 }

@@ -1,0 +1,2 @@
+pub mod TabletView
+pub mod Compactions
