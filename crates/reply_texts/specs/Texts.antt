@@ -32,6 +32,8 @@ layout_text layout.BadBuckets = codes "BadBuckets"
 abbrev pub def_text : DefError → List ℕ
 def_text (def.Shape error) = shape_text error
 def_text (def.Layout error) = layout_text error
+def_text def.BadProperty = codes "BadProperty"
+def_text def.NoMemory = codes "NoMemory"
 
 -- of a reply; none where what was asked is done
 abbrev pub refusal_text : Reply → List ℕ

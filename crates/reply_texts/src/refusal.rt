@@ -43,6 +43,8 @@ fn add_def(out: &mut Vec<u8>, error: &DefError) -> Result<(), NoMemory>
     match error {
         DefError::Shape(error) => add_shape(out, *error),
         DefError::Layout(error) => add_layout(out, error),
+        DefError::BadProperty => Ok(out.extend_from_slice(b"BadProperty")?),
+        DefError::NoMemory => Ok(out.extend_from_slice(b"NoMemory")?),
     }
 }
 

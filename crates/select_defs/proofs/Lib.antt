@@ -1,0 +1,6 @@
+mod Evals
+mod Exchanges
+mod Joins
+mod KeyTests
+mod Neighbours
+mod OrderLaws

@@ -1,0 +1,7 @@
+use Rattle.std.proofs.Common.{◌≡◌, drop, map}
+use Rattle.schema_models.specs.Faults.{first_of}
+use Rattle.select_defs.specs.Refusals.{bad_sum}
+use Rattle.select_defs.proofs.refusals.bad_sum_in.Given as goal
+
+abbrev pub invariant-loop-item : goal.invariant-loop-item
+invariant-loop-item l = first_of (map (bad_sum l.base) (drop l.item-index l.list)) ≡ first_of (map (bad_sum l.base) l.list)

@@ -1,0 +1,10 @@
+pub mod Columns
+pub mod Items
+pub mod Filters
+pub mod Refusals
+pub mod Aggregates
+pub mod Groups
+pub mod Orders
+pub mod Eval
+pub mod Examples
+pub mod Laws

@@ -1,0 +1,26 @@
+//! What a query answers over a list of rows: the definition, its laws, and a plain function that computes it.
+#![tactic(auto)]
+
+mod aggregates;
+mod answer;
+mod columns;
+mod evaluation;
+pub mod examples;
+mod filters;
+mod groups;
+mod item_names;
+mod items;
+pub mod laws;
+mod orders;
+mod refusals;
+mod select_error;
+
+pub use evaluation::eval;
+pub use filters::literal_cell;
+pub use item_names::{output_names, output_types, type_text};
+pub use items::items_of;
+pub use refusals::refusal;
+pub use select_error::SelectError;
+
+#[cfg(test)]
+mod tests;
