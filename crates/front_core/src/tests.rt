@@ -32,7 +32,7 @@ fn replies<L: Ledger, T>(
     for (ask, _) in asks {
         let command = command(alloc, *ask)?;
         let reply = front.step(command, &mut steps);
-        texts.push(text(alloc, &reply)?)?;
+        texts.push(text(alloc, &reply, &mut steps)?)?;
     }
     Ok(texts)
 }

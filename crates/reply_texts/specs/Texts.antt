@@ -22,11 +22,17 @@ shape_text (shape.KeyAfterValue column) = codes "KeyAfterValue column=" ++ decim
 shape_text (shape.BadAgg column) = codes "BadAgg column=" ++ decimal column
 shape_text (shape.BadDefault column) = codes "BadDefault column=" ++ decimal column
 
--- of a layout; a column is told by its name
+-- of a layout; a column and a partition are told by their names
 abbrev pub layout_text : LayoutError → List ℕ
+layout_text layout.NotPartitioned = codes "NotPartitioned"
 layout_text (layout.NoColumn column) = codes "NoColumn column=" ++ column
 layout_text (layout.NotAKey column) = codes "NotAKey column=" ++ column
 layout_text layout.BadBuckets = codes "BadBuckets"
+layout_text (layout.BadBound partition) = codes "BadBound partition=" ++ partition
+layout_text (layout.BadName partition) = codes "BadName partition=" ++ partition
+layout_text (layout.DoubleName partition) = codes "DoubleName partition=" ++ partition
+layout_text (layout.Overlap partition) = codes "Overlap partition=" ++ partition
+layout_text layout.TooManyPartitions = codes "TooManyPartitions"
 
 -- of a table's definition
 abbrev pub def_text : DefError → List ℕ

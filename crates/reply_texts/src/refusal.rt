@@ -31,9 +31,23 @@ fn add_layout(out: &mut Vec<u8>, error: &LayoutError) -> Result<(), NoMemory>
     ensures { OnOk result (out.new.items ≡ out.old.items ++ layout_text error.now) }
 {
     match error {
+        LayoutError::NotPartitioned => Ok(out.extend_from_slice(b"NotPartitioned")?),
         LayoutError::NoColumn { column } => add_texts(out, b"NoColumn column=", column.bytes()),
         LayoutError::NotAKey { column } => add_texts(out, b"NotAKey column=", column.bytes()),
         LayoutError::BadBuckets => Ok(out.extend_from_slice(b"BadBuckets")?),
+        LayoutError::BadBound { partition } => {
+            add_texts(out, b"BadBound partition=", partition.bytes())
+        }
+        LayoutError::BadName { partition } => {
+            add_texts(out, b"BadName partition=", partition.bytes())
+        }
+        LayoutError::DoubleName { partition } => {
+            add_texts(out, b"DoubleName partition=", partition.bytes())
+        }
+        LayoutError::Overlap { partition } => {
+            add_texts(out, b"Overlap partition=", partition.bytes())
+        }
+        LayoutError::TooManyPartitions => Ok(out.extend_from_slice(b"TooManyPartitions")?),
     }
 }
 

@@ -1,4 +1,5 @@
 // Commands in short.
+use columnar::are_of_shape;
 use dl_values::{Cell, ColType, Name, NoMemory, Row, Rows};
 use front_defs::{Command, TxnKey};
 use journal_format::EncodedRows;
@@ -65,7 +66,7 @@ fn plan(alloc: Global, txn: u64) -> Result<Plan, NoMemory> {
         Ok(shape) => shape,
         Err(_) => return Err(NoMemory),
     };
-    let layout = Layout::whole(alloc, name(alloc, "t")?, names(alloc, "k")?, 10)?;
+    let layout = Layout::whole(alloc, &base, name(alloc, "t")?, names(alloc, "k")?, 10)?;
     Ok(Plan {
         txn,
         schema: 0,
@@ -82,23 +83,30 @@ fn one_row(alloc: Global, k: i64) -> Result<Rows, NoMemory> {
     Ok(rows)
 }
 
+fn rowset(alloc: Global, shape: &Shape, rows: Rows) -> Result<Arc<Rowset>, NoMemory> {
+    if !are_of_shape(shape, &rows) {
+        return Err(NoMemory);
+    }
+    Rowset::build(alloc, shape, rows)
+}
+
 // A load of one row, or of none.
 fn built(alloc: Global, txn: u64, k: Option<i64>) -> Result<Built, NoMemory> {
+    let plan = plan(alloc, txn)?;
     let mut sets = Items::new(alloc);
     let mut rows = Rows::new(alloc);
     if let Some(k) = k {
         rows = one_row(alloc, k)?;
-        let rowset = Arc::new(alloc, Rowset::of_folded(one_row(alloc, k)?))?;
         sets.push(TabletRows {
             part: 0,
             bucket: 0,
-            rows: rowset,
+            rows: rowset(alloc, &plan.base, one_row(alloc, k)?)?,
         })?;
     }
     let mut targets = Items::new(alloc);
     targets.push(Mapped::Sets(sets))?;
     Ok(Built {
-        plan: plan(alloc, txn)?,
+        plan,
         rows: EncodedRows::new(rows),
         targets,
     })

@@ -1,10 +1,13 @@
 // Replies in short.
+use dl_outside::Steps;
 use dl_values::{Cell, NoMemory};
 use front_defs::Reply;
 use labels::TxnState;
+use row_fold::SortedRows;
 use rowsets::Rowset;
 use std::alloc::Global;
 use std::sync::Arc;
+use std::sync::ledger::Ledger;
 
 // A state in capitals.
 pub fn state_text(state: TxnState) -> &'static str {
@@ -17,19 +20,27 @@ pub fn state_text(state: TxnState) -> &'static str {
     }
 }
 
-fn sums(lists: &[Arc<Rowset>]) -> i64 {
+// The sum of the rows' one cell, over lists of one row.
+fn sums<L: Ledger>(lists: &[Arc<Rowset>], steps: &mut Steps<L>) -> i64 {
     let mut sum: i64 = 0;
     for list in lists {
-        if list.rows().len() == 1 {
-            if let [Cell::Int(k)] = list.rows().row(0) {
-                sum = sum.wrapping_add(*k);
+        if list.len() == 1 {
+            let row = list.row(0, steps);
+            if row.len() == 1 {
+                if let Cell::Int(k) = row.cell(0) {
+                    sum = sum.wrapping_add(*k);
+                }
             }
         }
     }
     sum
 }
 
-fn well_text(alloc: Global, reply: &Reply) -> Result<String, NoMemory> {
+fn well_text<L: Ledger>(
+    alloc: Global,
+    reply: &Reply,
+    steps: &mut Steps<L>,
+) -> Result<String, NoMemory> {
     let text = match reply {
         Reply::Done => format!(in alloc; "Done")?,
         Reply::Begun { txn, plan } => format!(in alloc; "Begun {txn} {}", plan.txn)?,
@@ -41,7 +52,7 @@ fn well_text(alloc: Global, reply: &Reply) -> Result<String, NoMemory> {
         Reply::Aborted { txn } => format!(in alloc; "Aborted {txn}")?,
         Reply::Snap { snapshot } => {
             let lists = snapshot.lists.as_slice();
-            format!(in alloc; "Snap {} {}", lists.len(), sums(lists))?
+            format!(in alloc; "Snap {} {}", lists.len(), sums(lists, steps))?
         }
         _ => format!(in alloc; "refused")?,
     };
@@ -49,7 +60,11 @@ fn well_text(alloc: Global, reply: &Reply) -> Result<String, NoMemory> {
 }
 
 // A reply in short.
-pub fn text(alloc: Global, reply: &Reply) -> Result<String, NoMemory> {
+pub fn text<L: Ledger>(
+    alloc: Global,
+    reply: &Reply,
+    steps: &mut Steps<L>,
+) -> Result<String, NoMemory> {
     let text = match reply {
         Reply::BadName => format!(in alloc; "BadName")?,
         Reply::DbExists => format!(in alloc; "DbExists")?,
@@ -63,7 +78,7 @@ pub fn text(alloc: Global, reply: &Reply) -> Result<String, NoMemory> {
         Reply::WrongState { state } => format!(in alloc; "WrongState {}", state_text(*state))?,
         Reply::Expired { since } => format!(in alloc; "Expired {since}")?,
         Reply::NothingToPublish => format!(in alloc; "NothingToPublish")?,
-        _ => well_text(alloc, reply)?,
+        _ => well_text(alloc, reply, steps)?,
     };
     Ok(text)
 }
