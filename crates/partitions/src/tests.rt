@@ -151,10 +151,14 @@ fn case(alloc: Global, case: &Case) -> Result<Option<Text>, NoMemory> {
     Ok(Some(told(alloc, &built)?))
 }
 
+fn cases() -> &'static [Case] {
+    CASES
+}
+
 #[test]
 fn the_first_refusal_is_told(rt: HostRuntime) -> Result<(), Fail> {
     let alloc = rt.alloc();
-    for one in CASES {
+    for one in cases() {
         let told = case(alloc, one)?.expect(&rt, "the columns are a shape");
         assert_eq!(rt; told.bytes(), one.4.as_bytes());
     }
@@ -169,32 +173,51 @@ fn row(alloc: Global, k: Cell, c: &str) -> Result<Row, NoMemory> {
     Ok(row)
 }
 
+// A key, where 0 is null, a city, and the partition and the bucket of such a row.
+type Place = (i64, &'static str, Option<(usize, usize)>);
+
+const PLACES: &[Place] = &[
+    (0, "Oslo", Some((1, 3))),
+    (9, "Rome", Some((1, 1))),
+    (10, "Oslo", Some((2, 3))),
+    (20, "Rome", Some((0, 1))),
+    (30, "Rome", None),
+];
+
+fn places() -> &'static [Place] {
+    PLACES
+}
+
+// Three partitions by the key, the last one added behind the others.
+fn grown(alloc: Global, shape: &Shape) -> Result<Layout, LayoutError> {
+    let of = parts(alloc, &[("p1", 20, 30), ("p2", 0, 10)])?;
+    let def = PartsDef::ByRange(Name::new(alloc, b"k")?, of);
+    let mut layout = Layout::build(alloc, shape, def, names(alloc, "c")?, 4)?;
+    layout.add(alloc, part(alloc, &("p3", 10, 20))?)?;
+    Ok(layout)
+}
+
 #[test]
 fn rows_have_the_places_of_their_keys(rt: HostRuntime) -> Result<(), Fail> {
     let alloc = rt.alloc();
     let shape = shape(alloc, Model::Duplicate)?.expect(&rt, "the columns are a shape");
-    let of = parts(alloc, &[("p1", 20, 30), ("p2", 0, 10)])?;
-    let def = PartsDef::ByRange(Name::new(alloc, b"k")?, of);
-    let mut layout = Layout::build(alloc, &shape, def, names(alloc, "c")?, 4)?;
-    layout.add(alloc, part(alloc, &("p3", 10, 20))?)?;
+    let layout = grown(alloc, &shape)?;
     let copy = layout.copy(alloc)?.over(alloc, &shape)?;
-    assert_eq!(rt; copy.parts().len(), 3);
-    assert_eq!(rt; copy.place(&row(alloc, Cell::Null, "Oslo")?), Some((1, 3)));
-    assert_eq!(rt;
-        copy.place(&row(alloc, Cell::Int(9), "Rome")?),
-        Some((1, 1))
-    );
-    assert_eq!(rt;
-        copy.place(&row(alloc, Cell::Int(10), "Oslo")?),
-        Some((2, 3))
-    );
-    assert_eq!(rt;
-        copy.place(&row(alloc, Cell::Int(20), "Rome")?),
-        Some((0, 1))
-    );
-    assert_eq!(rt; copy.place(&row(alloc, Cell::Int(30), "Rome")?), None);
-    let again = told(alloc, &layout.add(alloc, part(alloc, &("p4", 29, 40))?))?;
-    assert_eq!(rt; again.bytes(), b"Overlap p4".as_slice());
+    for (key, city, wanted) in places() {
+        let row = row(alloc, end(*key).unwrap_or(Cell::Null), city)?;
+        assert_eq!(rt; copy.place(&row), *wanted);
+    }
+    Ok(())
+}
+
+#[test]
+fn a_partition_that_meets_another_is_not_added(rt: HostRuntime) -> Result<(), Fail> {
+    let alloc = rt.alloc();
+    let shape = shape(alloc, Model::Duplicate)?.expect(&rt, "the columns are a shape");
+    let mut layout = grown(alloc, &shape)?;
+    let told = told(alloc, &layout.add(alloc, part(alloc, &("p4", 29, 40))?))?;
+    assert_eq!(rt; told.bytes(), b"Overlap p4".as_slice());
+    assert_eq!(rt; layout.parts().len(), 3);
     Ok(())
 }
 
