@@ -1,10 +1,10 @@
 -- What a reply makes of a script, by the kind of the reply.
-use Rattle.std.proofs.Common.{◌≡◌, ◌∙◌, ◌+◌, ◌-◌, ◌<◌, ◌≤◌, true, false, nat_le, ℕ, zero, suc, List, [], Option, Result, Ok, Err, IfOk, MatchResult, inl, inr, refl, sym, ap, arith}
+use Rattle.std.proofs.Common.{◌≡◌, ◌∙◌, ◌+◌, ◌<◌, ◌≤◌, true, false, nat_le, ℕ, suc, List, [], Option, Result, Ok, Err, IfOk, MatchResult, inl, inr, refl, ap, arith}
 use Rattle.std.proofs.lemmas.Bool.Decides.{nat_tests}
 use Rattle.front_defs.specs.declared.command.Command.TheVariants as command
 use Rattle.front_defs.specs.declared.reply.Reply.{Reply}
 use Rattle.front_defs.specs.declared.reply.Reply.TheVariants as reply
-use Rattle.front_defs.specs.Script.{Script, Ends, Asks, Served}
+use Rattle.front_defs.specs.Script.{Script, Asks, Served}
 use Rattle.load_server.specs.Responses.{Response, out_of_memory}
 use Rattle.dl_values.specs.declared.cell.Cell.{Cell}
 use Rattle.front_defs.specs.declared.reply.Placed.{Placed}
@@ -19,11 +19,11 @@ use Rattle.load_server.specs.declared.load.Load.{Load}
 -- ---- publish turns
 
 -- one publish of those that are left
-pub publishing_more : (good late : Response) (at place most i : ℕ) → i < most → publishing good late at place (most - i) ≡ Asks (command.Publish at) (after_publish good late place (publishing good late at place (most - (i + 1))))
-publishing_more good late at place most i lt = let e : most - i ≡ suc (most - (i + 1)) = omega arith in ap (publishing good late at place) e
+pub publishing_next : (good late : Response) (at place more : ℕ) → publishing good late at place (more + 1) ≡ Asks (command.Publish at) (after_publish good late place (publishing good late at place more))
+publishing_next good late at place more = let e : more + 1 ≡ suc more = omega arith in ap (publishing good late at place) e
 
-pub publishing_done : (good late : Response) (at place most i : ℕ) → most ≤ i → publishing good late at place (most - i) ≡ made good
-publishing_done good late at place most i le = let e : most - i ≡ zero = omega arith in ap (publishing good late at place) e
+pub publishing_done : (good late : Response) (at place more : ℕ) → more ≡ 0 → publishing good late at place more ≡ made good
+publishing_done good late at place more none = ap (publishing good late at place) none
 
 pub publish_reached : (good late : Response) (place : ℕ) (later : Script Response) (r : Reply) (txn reached : ℕ) → r ≡ reply.Published txn reached → place ≤ reached → after_publish good late place later r ≡ made good
 publish_reached good late place later r txn reached is le = rw is (let e : nat_le place reached ≡ true = grind (arith, nat_tests) in rw e refl)

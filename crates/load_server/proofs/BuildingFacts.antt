@@ -1,6 +1,7 @@
 -- The way to build that a built load shows.
-use Rattle.std.proofs.Common.{◌≡◌, ◌∙◌, ℕ, List, [], ◌∷◌, refl, sym, ap}
+use Rattle.std.proofs.Common.{◌≡◌, List, [], ◌∷◌, refl, sym, ap}
 use Rattle.std.specs.Ptr.{Ptr, null_ptr}
+use Rattle.columnar.specs.Marks.{marks_of}
 use Rattle.dl_values.specs.declared.cell.Cell.{Cell}
 use Rattle.schema_models.specs.Folds.{fold_of}
 use Rattle.schema_models.specs.ShapeView.{ShapeView}
@@ -9,20 +10,20 @@ use Rattle.shadow_writes.specs.declared.built.Built.{Built}
 use Rattle.shadow_writes.specs.declared.built.Mapped.{Mapped}
 use Rattle.shadow_writes.specs.declared.built.Mapped.TheVariants.{Sets}
 use Rattle.shadow_writes.specs.declared.built.TabletRows.{TabletRows}
-use Rattle.front_defs.specs.May.{GetsFold, SetsOf, MappedOf, Only}
+use Rattle.front_defs.specs.May.{SetsOf, MappedOf, Only}
 use Rattle.load_server.specs.Building.{IsBuiltOf, IsBuilding}
 
 -- the folded rows stand at this place
 abbrev pub sets_at : Ptr → ShapeView → List (List Cell) → List TabletRows
 sets_at p base [] = []
-sets_at p base (r ∷ rs) = record { part = 0; bucket = 0; rows = record { ptr = p; value = fold_of base (r ∷ rs) } } ∷ []
+sets_at p base (r ∷ rs) = record { part = 0; bucket = 0; rows = record { ptr = p; value = record { marks = marks_of base; rows = fold_of base (r ∷ rs) } } } ∷ []
 
 abbrev pub building_at : Ptr → Plan → List (List Cell) → Built
 building_at p plan rows = record { plan = plan; rows = rows; targets = Sets (sets_at p plan.base rows) ∷ [] }
 
 sets_are : (p : Ptr) (base : ShapeView) (rows : List (List Cell)) → SetsOf base rows (sets_at p base rows)
 sets_are p base [] = refl
-sets_are p base (r ∷ rs) = record { part = refl; bucket = refl; folded = refl }
+sets_are p base (r ∷ rs) = record { part = refl; bucket = refl; built = record { marks = refl; folded = refl } }
 
 pub building_is : (p : Ptr) → IsBuilding (building_at p)
 building_is p plan rows = record { plan_is = refl; rows_are = refl; targets = sets_are p plan.base rows }
@@ -45,8 +46,9 @@ sets_same base (r ∷ rs) [] is = absurd is
 sets_same base (r ∷ rs) (s ∷ []) is =
     let part : 0 ≡ s.part = sym is.part in
     let bucket : 0 ≡ s.bucket = sym is.bucket in
-    let folded : fold_of base (r ∷ rs) ≡ s.rows.value = sym is.folded in
-    λ i. record { part = part i; bucket = bucket i; rows = record { ptr = s.rows.ptr; value = folded i } } ∷ []
+    let marks : marks_of base ≡ s.rows.value.marks = sym is.built.marks in
+    let folded : fold_of base (r ∷ rs) ≡ s.rows.value.rows = sym is.built.folded in
+    λ i. record { part = part i; bucket = bucket i; rows = record { ptr = s.rows.ptr; value = record { marks = marks i; rows = folded i } } } ∷ []
 sets_same base (r ∷ rs) (s ∷ t ∷ ss) is = absurd is
 
 targets_same : (base : ShapeView) (rows : List (List Cell)) (targets : List Mapped) → Only targets (MappedOf base rows) → Sets (sets_at (place_of_targets targets) base rows) ∷ [] ≡ targets

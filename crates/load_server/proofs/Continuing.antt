@@ -1,5 +1,5 @@
 -- How a session goes on from request to request.
-use Rattle.std.proofs.Common.{◌≡◌, ◌+◌, ◌≤◌, ◌<◌, ◌-◌, ℕ, suc, false, List, [], ◌∷◌, ◌++◌, Option, Some, None, IfSome, inl, inr, ◌⊎◌, refl, sym, ◌∙◌, ap, subst, append_assoc, append-nil, length, length-append, map, take, arith}
+use Rattle.std.proofs.Common.{◌≡◌, ◌+◌, ◌<◌, ◌-◌, ℕ, false, List, [], ◌∷◌, ◌++◌, Option, Some, None, IfSome, inl, inr, refl, sym, ◌∙◌, ap, subst, append_assoc, append-nil, length, length-append, map, take, arith}
 use Rattle.std.proofs.lemmas.List.{map-append}
 use Rattle.std.proofs.lemmas.Grind.{flat_map-append}
 use Rattle.std.proofs.KnownBytes.{Appends-nil, Appends-trans}
@@ -9,14 +9,13 @@ use Rattle.front_defs.specs.declared.history.Call.{Call}
 use Rattle.front_defs.specs.declared.history.Entry.{Entry}
 use Rattle.front_defs.specs.Script.{Moved, after}
 use Rattle.http_wire.specs.Reader.{place_after}
-use Rattle.http_wire.specs.Requests.{Request, Requests, Ends}
-use Rattle.http_wire.specs.declared.error.WireError.{WireError}
-use Rattle.http_wire.proofs.Unique.{unique}
+use Rattle.http_wire.specs.Requests.{Request}
 use Rattle.load_server.specs.Exchanges.{Exchange, IsServed, Behind, behind_texts, nothing_behind, texts_of}
-use Rattle.load_server.specs.Sessions.{Begins, CountsTo, Ended, ErrorStands, GivesMoments, HeadStands, IsUnrefused, LastCloses, ReadText, ReadsAll, RefusedAt, SessionDid, StayOpen, Wrote, WroteFront, closing, joined, most_requests, requests_of}
-use Rattle.load_server.specs.Steps.{Step, StepCounts, StepEnded, StepRead, StepWrote}
+use Rattle.load_server.specs.Sessions.{AnswersAll, Begins, CountsTo, Ended, GivesMoments, LastCloses, ReadText, ReadsAll, SessionDid, StayOpen, Wrote, WroteFront, closing, joined, most_requests, requests_of}
+use Rattle.load_server.specs.Steps.{EndsWith, Step, StepCounts, StepEnded, StepRead}
 use Rattle.load_server.specs.declared.session_end.SessionEnd.{SessionEnd}
 use Rattle.load_server.specs.declared.session_end.SessionEnd.TheVariants as ends
+use Rattle.load_server.proofs.Asking.{answers_all}
 use Rattle.load_server.proofs.Going.{moved_more, moved_none}
 
 -- ---- parts of lists
@@ -74,18 +73,17 @@ last_closes : (front xs : List Exchange) → StayOpen front → LastCloses xs �
 last_closes front xs stay (before, x, e, rest, c) =
     (front ++ before, x, ap (λ (l : List Exchange). front ++ l) e ∙ sym (append_assoc front before (x ∷ [])), all_append (λ x. closing x ≡ false) front before stay rest, c)
 
-open_or_closed : (front xs : List Exchange) → StayOpen front → StayOpen xs ⊎ LastCloses xs → StayOpen (front ++ xs) ⊎ LastCloses (front ++ xs)
-open_or_closed front xs stay (inl all) = inl (all_append (λ x. closing x ≡ false) front xs stay all)
-open_or_closed front xs stay (inr last) = inr (last_closes front xs stay last)
-
-ended_more : (end : SessionEnd) (front xs : List Exchange) (behind : Behind) → StayOpen front → Ended end xs behind → Ended end (front ++ xs) behind
-ended_more ends.Done front xs behind stay (e, h) = (e, open_or_closed front xs stay h)
-ended_more ends.ReadFault front xs behind stay (h, e) = (all_append (λ x. closing x ≡ false) front xs stay h, e)
-ended_more ends.WriteFault front xs behind stay (inl h) = inl (all_append (λ x. closing x ≡ false) front xs stay h)
-ended_more ends.WriteFault front xs behind stay (inr (h, e)) = inr (last_closes front xs stay h, e)
-ended_more (ends.Refused at) front xs behind stay (h, e) = (all_append (λ x. closing x ≡ false) front xs stay h, e)
-ended_more ends.Enough front xs behind stay (h, e) = (all_append (λ x. closing x ≡ false) front xs stay h, e)
-ended_more ends.NoMemory front xs behind stay (h, e) = (all_append (λ x. closing x ≡ false) front xs stay h, e)
+ended_more : (end : SessionEnd) (front xs : List Exchange) (behind : Behind) → length front < most_requests → StayOpen front → EndsWith end xs behind → Ended end (front ++ xs) behind
+ended_more ends.Done front xs behind lt stay (e, inl none) =
+    let same : front ++ xs ≡ front = ap (λ (l : List Exchange). front ++ l) none ∙ append-nil front in
+    (e, inl (subst (λ (l : List Exchange). StayOpen l) (sym same) stay, subst (λ (l : List Exchange). length l < most_requests) (sym same) lt))
+ended_more ends.Done front xs behind lt stay (e, inr last) = (e, inr (last_closes front xs stay last))
+ended_more ends.ReadFault front xs behind lt stay (h, e) = (all_append (λ x. closing x ≡ false) front xs stay h, e)
+ended_more ends.WriteFault front xs behind lt stay (inl h) = inl (all_append (λ x. closing x ≡ false) front xs stay h)
+ended_more ends.WriteFault front xs behind lt stay (inr (h, e)) = inr (last_closes front xs stay h, e)
+ended_more (ends.Refused at) front xs behind lt stay (h, e) = (all_append (λ x. closing x ≡ false) front xs stay h, e)
+ended_more ends.Enough front xs behind lt stay (h, e) = (all_append (λ x. closing x ≡ false) front xs stay h, e)
+ended_more ends.NoMemory front xs behind lt stay (h, e) = (all_append (λ x. closing x ≡ false) front xs stay h, e)
 
 reads_more : (end : SessionEnd) (front xs : List Exchange) (rest : List ℕ) → StayOpen front → ReadsAll end xs rest → ReadsAll end (front ++ xs) rest
 reads_more ends.Done front xs rest stay (inl e) = inl e
@@ -144,18 +142,18 @@ moments_both a b c xs ys p q = subst (λ (ms : List ℕ). GivesMoments a c ms) (
 one_more : (xs : List Exchange) (behind : Behind) → StepEnded None xs behind → StayOpen xs × (behind_texts behind ≡ []) × (length xs ≡ 1)
 one_more xs behind (x, e, c, b) = (subst (λ (l : List Exchange). StayOpen l) (sym e) (c, tt), ap behind_texts b, ap length e)
 
-read_more : (told left left_now : Option (List ℕ)) (at at_now : ℕ) (xs ys : List Exchange) (behind : Behind) → IfSome told (λ text. (rest : List ℕ) × Begins 0 text (requests_of xs) at rest × (left ≡ Some rest)) → IfSome left (StepRead None ys behind at at_now left_now)
+read_more : (told left left_now unread : Option (List ℕ)) (at at_now : ℕ) (xs ys : List Exchange) (behind : Behind) → IfSome told (λ text. (rest : List ℕ) × Begins 0 text (requests_of xs) at rest × (left ≡ Some rest)) → IfSome left (StepRead None ys behind at at_now left_now unread)
     → IfSome told (λ text. (rest : List ℕ) × Begins 0 text (requests_of (xs ++ ys)) at_now rest × (left_now ≡ Some rest))
-read_more None left left_now at at_now xs ys behind p q = tt
-read_more (Some text) left left_now at at_now xs ys behind (rest, b, e) q =
-    let here : StepRead None ys behind at at_now left_now rest = subst (λ (l : Option (List ℕ)). IfSome l (StepRead None ys behind at at_now left_now)) e q in
+read_more None left left_now unread at at_now xs ys behind p q = tt
+read_more (Some text) left left_now unread at at_now xs ys behind (rest, b, e) q =
+    let here : StepRead None ys behind at at_now left_now unread rest = subst (λ (l : Option (List ℕ)). IfSome l (StepRead None ys behind at at_now left_now unread)) e q in
     (here.0, subst (λ (qs : List Request). Begins 0 text qs at_now here.0) (sym (map-append (λ (x : Exchange). x.request) xs ys)) (begins_more 0 text (requests_of xs) at rest (requests_of ys) at_now here.0 b here.1), here.2)
 
-pub sofar_more : (told left left_now before mid now given given_mid given_now : Option (List ℕ)) (at at_now : ℕ) (old new : List Entry → List Entry → Type 0) (seen own : List Entry) (n : ℕ)
+pub sofar_more : (told left left_now unread before mid now given given_mid given_now : Option (List ℕ)) (at at_now : ℕ) (old new : List Entry → List Entry → Type 0) (seen own : List Entry) (n : ℕ)
     → Sofar told left before mid given given_mid at old seen own n
-    → ((s o : List Entry) → old s o → Step at left at_now left_now mid now given_mid given_now new s o None)
+    → ((s o : List Entry) → old s o → Step at left at_now left_now unread mid now given_mid given_now new s o None)
     → Sofar told left_now before now given given_now at_now new seen own (n + 1)
-sofar_more told left left_now before mid now given given_mid given_now at at_now old new seen own n s step =
+sofar_more told left left_now unread before mid now given given_mid given_now at at_now old new seen own n s step =
     let m = s.moved in
     let t = step m.seen_now (after (flat_map (λ x. x.calls) s.exchanges) own) m.now in
     let one = one_more t.exchanges t.behind t.ended in
@@ -167,16 +165,16 @@ sofar_more told left left_now before mid now given given_mid given_now at at_now
       served = all_append IsServed s.exchanges t.exchanges s.served t.served;
       moved = calls_more old new seen own s.exchanges t.exchanges m t.moved;
       moments = moments_both given given_mid given_now s.exchanges t.exchanges s.moments t.moments;
-      read = read_more told left left_now at at_now s.exchanges t.exchanges t.behind s.read t.read;
+      read = read_more told left left_now unread at at_now s.exchanges t.exchanges t.behind s.read t.read;
       wrote = subst (λ (l : List (List ℕ)). Appends before now (joined l)) (sym (flat_map-append texts_of s.exchanges t.exchanges))
           (wrote_whole before mid now (flat_map texts_of s.exchanges) (flat_map texts_of t.exchanges) s.wrote (subst (λ (l : List (List ℕ)). Appends mid now (joined l)) texts t.wrote));
     }
 
-read_last : (end : SessionEnd) (told left : Option (List ℕ)) (at : ℕ) (xs ys : List Exchange) (behind : Behind) → StayOpen xs → IfSome told (λ text. (rest : List ℕ) × Begins 0 text (requests_of xs) at rest × (left ≡ Some rest)) → IfSome left (ReadText end ys behind at)
-    → IfSome told (ReadText end (xs ++ ys) behind 0)
-read_last end None left at xs ys behind stay p q = tt
-read_last end (Some text) left at xs ys behind stay (rest, b, e) q =
-    let here : ReadText end ys behind at rest = subst (λ (l : Option (List ℕ)). IfSome l (ReadText end ys behind at)) e q in
+read_last : (end : SessionEnd) (told left unread : Option (List ℕ)) (at : ℕ) (xs ys : List Exchange) (behind : Behind) → StayOpen xs → IfSome told (λ text. (rest : List ℕ) × Begins 0 text (requests_of xs) at rest × (left ≡ Some rest)) → IfSome left (ReadText end ys behind at unread)
+    → IfSome told (ReadText end (xs ++ ys) behind 0 unread)
+read_last end None left unread at xs ys behind stay p q = tt
+read_last end (Some text) left unread at xs ys behind stay (rest, b, e) q =
+    let here : ReadText end ys behind at unread rest = subst (λ (l : Option (List ℕ)). IfSome l (ReadText end ys behind at unread)) e q in
     record {
       place = here.place;
       rest = here.rest;
@@ -184,63 +182,59 @@ read_last end (Some text) left at xs ys behind stay (rest, b, e) q =
       head = here.head;
       error = here.error;
       all = reads_more end xs ys here.rest stay here.all;
+      unread = here.unread;
     }
 
-pub session_ends : (told left left_now before mid now given given_mid given_now : Option (List ℕ)) (at at_now : ℕ) (old new : List Entry → List Entry → Type 0) (seen own : List Entry) (n : ℕ) (end : SessionEnd)
+pub session_ends : (told left left_now unread before mid now given given_mid given_now : Option (List ℕ)) (at at_now : ℕ) (old new : List Entry → List Entry → Type 0) (seen own : List Entry) (n : ℕ) (end : SessionEnd)
     → n < most_requests
     → Sofar told left before mid given given_mid at old seen own n
-    → ((s o : List Entry) → old s o → Step at left at_now left_now mid now given_mid given_now new s o (Some end))
-    → SessionDid told before now given given_now new seen own end
-session_ends told left left_now before mid now given given_mid given_now at at_now old new seen own n end lt s step =
+    → ((s o : List Entry) → old s o → Step at left at_now left_now unread mid now given_mid given_now new s o (Some end))
+    → SessionDid told unread before now given given_now new seen own end
+session_ends told left left_now unread before mid now given given_mid given_now at at_now old new seen own n end lt s step =
     let m = s.moved in
     let t = step m.seen_now (after (flat_map (λ x. x.calls) s.exchanges) own) m.now in
     let texts : flat_map texts_of (s.exchanges ++ t.exchanges) ++ behind_texts t.behind ≡ flat_map texts_of s.exchanges ++ (flat_map texts_of t.exchanges ++ behind_texts t.behind) =
     ap (λ (l : List (List ℕ)). l ++ behind_texts t.behind) (flat_map-append texts_of s.exchanges t.exchanges) ∙ append_assoc (flat_map texts_of s.exchanges) (flat_map texts_of t.exchanges) (behind_texts t.behind) in
+    let read = read_last end told left unread at s.exchanges t.exchanges t.behind s.open_all s.read t.read in
+    let short : length s.exchanges < most_requests = let a = s.count in omega (arith, a, lt) in
+    let ended = ended_more end s.exchanges t.exchanges t.behind short s.open_all t.ended in
     record {
       exchanges = s.exchanges ++ t.exchanges;
       behind = t.behind;
       served = all_append IsServed s.exchanges t.exchanges s.served t.served;
       moved = calls_more old new seen own s.exchanges t.exchanges m t.moved;
       moments = moments_both given given_mid given_now s.exchanges t.exchanges s.moments t.moments;
-      read = read_last end told left at s.exchanges t.exchanges t.behind s.open_all s.read t.read;
+      read = read;
+      named = t.named;
       wrote = subst (λ (l : List (List ℕ)). Wrote end before now l) (sym texts) (wrote_more end before mid now (flat_map texts_of s.exchanges) (flat_map texts_of t.exchanges ++ behind_texts t.behind) s.wrote t.wrote);
-      ended = ended_more end s.exchanges t.exchanges t.behind s.open_all t.ended;
+      ended = ended;
+      answered = answers_all told unread end (s.exchanges ++ t.exchanges) t.behind read ended;
       count = subst (λ (k : ℕ). CountsTo end k) (ap (λ (k : ℕ). k + length t.exchanges) (sym s.count) ∙ sym (length-append s.exchanges t.exchanges)) (counts_more end n (length t.exchanges) lt t.one);
     }
 
-read_enough : (told left : Option (List ℕ)) (at : ℕ) (xs : List Exchange) → IfSome told (λ text. (rest : List ℕ) × Begins 0 text (requests_of xs) at rest × (left ≡ Some rest)) → IfSome told (ReadText ends.Enough xs nothing_behind 0)
-read_enough None left at xs p = tt
-read_enough (Some text) left at xs (rest, b, e) = record { place = at; rest = rest; begins = b; head = tt; error = tt; all = tt }
+read_enough : (told left unread : Option (List ℕ)) (at : ℕ) (xs : List Exchange) → IfSome told (λ text. (rest : List ℕ) × Begins 0 text (requests_of xs) at rest × (left ≡ Some rest)) → IfSome told (ReadText ends.Enough xs nothing_behind 0 unread)
+read_enough None left unread at xs p = tt
+read_enough (Some text) left unread at xs (rest, b, e) = record { place = at; rest = rest; begins = b; head = tt; error = tt; all = tt; unread = tt }
 
-pub session_enough : (told left before now given given_now : Option (List ℕ)) (at : ℕ) (stands : List Entry → List Entry → Type 0) (seen own : List Entry) (n : ℕ) → n ≡ most_requests → Sofar told left before now given given_now at stands seen own n → SessionDid told before now given given_now stands seen own ends.Enough
-session_enough told left before now given given_now at stands seen own n e s =
+enough_answers : (told : Option (List ℕ)) (xs : List Exchange) → IfSome told (AnswersAll ends.Enough xs)
+enough_answers None xs = tt
+enough_answers (Some text) xs = λ qs asks e. absurd (never_done e)
+  where
+    never_done : ends.Enough ≡ ends.Done → ⊥
+    never_done e = subst (λ (x : SessionEnd). StepCounts (Some x) 0) (sym e) (omega arith)
+
+pub session_enough : (told left unread before now given given_now : Option (List ℕ)) (at : ℕ) (stands : List Entry → List Entry → Type 0) (seen own : List Entry) (n : ℕ) → n ≡ most_requests → Sofar told left before now given given_now at stands seen own n → SessionDid told unread before now given given_now stands seen own ends.Enough
+session_enough told left unread before now given given_now at stands seen own n e s =
     record {
       exchanges = s.exchanges;
       behind = nothing_behind;
       served = s.served;
       moved = s.moved;
       moments = s.moments;
-      read = read_enough told left at s.exchanges s.read;
+      read = read_enough told left unread at s.exchanges s.read;
+      named = tt;
+      answered = enough_answers told s.exchanges;
       wrote = subst (λ (l : List (List ℕ)). Appends before now (joined l)) (sym (append-nil (flat_map texts_of s.exchanges))) s.wrote;
       ended = (s.open_all, refl);
       count = s.count ∙ e;
     }
-
--- ---- a text of whole requests is never refused
-
-requests_end : (at : ℕ) (text : List ℕ) (qs : List Request) (place : ℕ) (rest : List ℕ) (end : Option WireError) → Begins at text qs place rest → Ends place rest end → Requests at text qs end
-requests_end at text [] place rest end (e, f) h = subst (λ (p : ℕ). Ends p text end) e (subst (λ (t : List ℕ). Ends place t end) f h)
-requests_end at text (q ∷ qs) place rest end (behind, left, head, body, more) h =
-    (behind, left, head, body, requests_end (place_after (place_after at (length text - length behind)) (length q.body)) left qs place rest end more h)
-
-not_refused : (text : List ℕ) (xs : List Exchange) (behind : Behind) (at : ℕ) (error : Option WireError) → RefusedAt at error → (r : ReadText (ends.Refused at) xs behind 0 text) → ErrorStands r.place r.rest error → (qs : List Request) → Requests 0 text qs None → ⊥
-not_refused text xs behind at None refused r stands qs h = refused
-not_refused text xs behind at (Some error) refused r stands qs h =
-    let same = unique 0 text qs (requests_of xs) None (Some error) h (requests_end 0 text (requests_of xs) r.place r.rest (Some error) r.begins stands) in
-    let none : None ≡ Some error = same.1 in absurd (cc)
-
-pub never_refused : (told before now given given_now : Option (List ℕ)) (stands : List Entry → List Entry → Type 0) (seen own : List Entry) (end : SessionEnd) → SessionDid told before now given given_now stands seen own end → IfSome told (IsUnrefused end)
-never_refused None before now given given_now stands seen own end did = tt
-never_refused (Some text) before now given given_now stands seen own end did = λ qs h at e.
-    let d : SessionDid (Some text) before now given given_now stands seen own (ends.Refused at) = subst (λ (x : SessionEnd). SessionDid (Some text) before now given given_now stands seen own x) e did in
-    not_refused text d.exchanges d.behind at d.behind.error d.ended.1 d.read d.read.error qs h

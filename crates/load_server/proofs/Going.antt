@@ -1,12 +1,12 @@
 -- How a script goes on from turn to turn.
-use Rattle.std.proofs.Common.{◌≡◌, List, [], ◌∷◌, ◌++◌, ◌⊎◌, inl, inr, refl, sym, ◌∙◌, ap, subst, append_assoc, append-nil}
+use Rattle.std.proofs.Common.{◌≡◌, ℕ, List, [], ◌∷◌, ◌++◌, inl, inr, refl, sym, subst, append_assoc, append-nil}
 use Rattle.front_defs.specs.declared.command.Command.{Command}
 use Rattle.front_defs.specs.declared.reply.Reply.{Reply}
 use Rattle.front_defs.specs.declared.history.Call.{Call}
 use Rattle.front_defs.specs.declared.history.Entry.{Entry}
 use Rattle.front_defs.specs.declared.history.Entry.TheVariants.{Made}
 use Rattle.front_defs.specs.May.{May}
-use Rattle.front_defs.specs.Script.{Script, Ends, Asks, Works, Served, Moved, Answered, after}
+use Rattle.front_defs.specs.Script.{Script, Asks, Works, Served, Leads, Moved, Answered, after}
 use Rattle.front_defs.specs.Turn.{Turned}
 use Rattle.std.specs.Ptr.{null_ptr}
 use Rattle.dl_values.specs.declared.cell.Cell.{Cell}
@@ -20,23 +20,25 @@ pub after-append : (E F : List Call) (H : List Entry) → after (E ++ F) H ≡ a
 after-append [] F H = refl
 after-append (x ∷ E) F H = after-append E F (Made x ∷ H)
 
+leads_more : (E F : List Call) (a b c : List Entry) → Leads a E b → Leads b F c → Leads a (E ++ F) c
+leads_more [] F a b c e l = subst (λ (H : List Entry). Leads H F c) e l
+leads_more (x ∷ E) F a b c (others, k) l = (others, leads_more E F (Made x ∷ (others ++ a)) b c k l)
+
 -- nothing has moved
 pub moved_none : (stands : List Entry → List Entry → Type 0) (seen own : List Entry) → stands seen own → Moved stands seen own []
-moved_none stands seen own s = record { seen_now = seen; others = []; longer = refl; now = s; legal = λ l. l }
+moved_none stands seen own s = record { seen_now = seen; leads = refl; now = s }
 
 -- what a turn promises
-abbrev pub Turn : (old new : List Entry → List Entry → Type 0) → Command → Reply → Type 0
-Turn old new c r = (s o : List Entry) → old s o → May o c → Turned new s o c r
+abbrev pub Turn : (old new : List Entry → List Entry → Type 0) → ℕ → ℕ → Command → Reply → Type 0
+Turn old new n m c r = (s o : List Entry) → old s o → May o c → Turned new n m s o c r
 
 -- these calls, and then those of another part
 pub moved_more : (mid new : List Entry → List Entry → Type 0) (seen own : List Entry) (E F : List Call) → (m : Moved mid seen own E) → Moved new m.seen_now (after E own) F → Moved new seen own (E ++ F)
 moved_more mid new seen own E F m n =
     record {
       seen_now = n.seen_now;
-      others = n.others ++ m.others;
-      longer = n.longer ∙ ap (λ (H : List Entry). n.others ++ H) m.longer ∙ sym (append_assoc n.others m.others seen);
+      leads = leads_more E F seen m.seen_now n.seen_now m.leads n.leads;
       now = subst (λ (H : List Entry). new n.seen_now H) (sym (after-append E F own)) n.now;
-      legal = λ l. n.legal (m.legal l);
     }
 
 -- a script that takes no turn
@@ -51,24 +53,17 @@ pub answered_lacking : (stands : List Entry → List Entry → Type 0) (seen own
 answered_lacking stands seen own done lacking response a = record { calls = a.calls; served = inr a.served; moved = a.moved }
 
 -- a turn that was taken, and the rest of the script by its reply
-pub answered_turn : (mid new : List Entry → List Entry → Type 0) (seen own : List Entry) (c : Command) (next : Reply → Script Response) (r : Reply) (response : Response)
-    → (t : Turned mid seen own c r) → Answered new (Made t.call ∷ (t.others ++ seen)) (Made t.call ∷ own) (next r) response → Answered new seen own (Asks c next) response
+pub answered_turn : {n m : ℕ} (mid new : List Entry → List Entry → Type 0) (seen own : List Entry) (c : Command) (next : Reply → Script Response) (r : Reply) (response : Response)
+    → (t : Turned mid n m seen own c r) → Answered new (Made t.call ∷ (t.others ++ seen)) (Made t.call ∷ own) (next r) response → Answered new seen own (Asks c next) response
 answered_turn mid new seen own c next r response t a =
-    let m = a.moved in
     record {
       calls = t.call ∷ a.calls;
       served = (t.command_is, subst (λ (x : Reply). Served (next x) a.calls response) (sym t.reply_is) a.served);
-      moved = record {
-        seen_now = m.seen_now;
-        others = m.others ++ Made t.call ∷ t.others;
-        longer = m.longer ∙ sym (append_assoc m.others (Made t.call ∷ t.others) seen);
-        now = m.now;
-        legal = λ l. m.legal t.legal;
-      };
+      moved = record { seen_now = a.moved.seen_now; leads = (t.others, a.moved.leads); now = a.moved.now };
     }
 
-pub answered_asks : (old mid new : List Entry → List Entry → Type 0) (seen own : List Entry) (c : Command) (next : Reply → Script Response) (r : Reply) (response : Response)
-    → Turn old mid c r → old seen own → May own c
+pub answered_asks : {n m : ℕ} (old mid new : List Entry → List Entry → Type 0) (seen own : List Entry) (c : Command) (next : Reply → Script Response) (r : Reply) (response : Response)
+    → Turn old mid n m c r → old seen own → May own c
     → ((s : List Entry) (call : Call) → call.reply ≡ r → mid s (Made call ∷ own) → Answered new s (Made call ∷ own) (next r) response)
     → Answered new seen own (Asks c next) response
 answered_asks old mid new seen own c next r response turn s may rest =
@@ -76,8 +71,8 @@ answered_asks old mid new seen own c next r response turn s may rest =
     answered_turn mid new seen own c next r response t (rest (Made t.call ∷ (t.others ++ seen)) t.call t.reply_is t.now)
 
 -- a turn whose reply ends the script without another turn
-pub answered_asks_now : (old new : List Entry → List Entry → Type 0) (seen own : List Entry) (c : Command) (next : Reply → Script Response) (r : Reply) (response : Response)
-    → Turn old new c r → old seen own → May own c → Served (next r) [] response → Answered new seen own (Asks c next) response
+pub answered_asks_now : {n m : ℕ} (old new : List Entry → List Entry → Type 0) (seen own : List Entry) (c : Command) (next : Reply → Script Response) (r : Reply) (response : Response)
+    → Turn old new n m c r → old seen own → May own c → Served (next r) [] response → Answered new seen own (Asks c next) response
 answered_asks_now old new seen own c next r response turn s may served =
     answered_asks old new new seen own c next r response turn s may (λ z call e stands. answered_now new z (Made call ∷ own) (next r) response stands served)
 
@@ -96,8 +91,8 @@ pub going_start : (stands : List Entry → List Entry → Type 0) (seen own : Li
 going_start stands seen own start s = record { calls = []; served = λ E response h. h; moved = moved_none stands seen own s }
 
 -- one turn more
-pub going_on : (old new : List Entry → List Entry → Type 0) (seen own : List Entry) (start left : Script Response) (c : Command) (next : Reply → Script Response) (r : Reply)
-    → (g : Going old seen own start left) → left ≡ Asks c next → Turn old new c r → May (after g.calls own) c → Going new seen own start (next r)
+pub going_on : {n m : ℕ} (old new : List Entry → List Entry → Type 0) (seen own : List Entry) (start left : Script Response) (c : Command) (next : Reply → Script Response) (r : Reply)
+    → (g : Going old seen own start left) → left ≡ Asks c next → Turn old new n m c r → May (after g.calls own) c → Going new seen own start (next r)
 going_on old new seen own start left c next r g asks turn may =
     let m = g.moved in
     let t = turn m.seen_now (after g.calls own) m.now may in
@@ -108,10 +103,8 @@ going_on old new seen own start left c next r g asks turn may =
           (g.served (t.call ∷ E) response (subst (λ (x : Script Response). Served x (t.call ∷ E) response) (sym asks) (t.command_is, subst (λ (x : Reply). Served (next x) E response) (sym t.reply_is) h)));
       moved = moved_more old new seen own g.calls (t.call ∷ []) m (record {
         seen_now = Made t.call ∷ (t.others ++ m.seen_now);
-        others = Made t.call ∷ t.others;
-        longer = refl;
+        leads = (t.others, refl);
         now = t.now;
-        legal = λ l. t.legal;
       });
     }
 
@@ -144,8 +137,8 @@ by_done stands seen own script lacking response a = record { building = a.buildi
 pub by_lacking : (stands : List Entry → List Entry → Type 0) (seen own : List Entry) (script : Way → Script Response) (lacking : Script Response) (response : Response) → Answered stands seen own lacking response → AnsweredBy stands seen own (λ b. Works (script b) lacking) response
 by_lacking stands seen own script lacking response a = record { building = building_at null_ptr; builds = building_is null_ptr; answered = answered_lacking stands seen own (script (building_at null_ptr)) lacking response a }
 
-pub by_asks : (old mid new : List Entry → List Entry → Type 0) (seen own : List Entry) (c : Command) (next : Way → Reply → Script Response) (r : Reply) (response : Response)
-    → Turn old mid c r → old seen own → May own c
+pub by_asks : {n m : ℕ} (old mid new : List Entry → List Entry → Type 0) (seen own : List Entry) (c : Command) (next : Way → Reply → Script Response) (r : Reply) (response : Response)
+    → Turn old mid n m c r → old seen own → May own c
     → ((s : List Entry) (call : Call) → call.reply ≡ r → mid s (Made call ∷ own) → AnsweredBy new s (Made call ∷ own) (λ b. next b r) response)
     → AnsweredBy new seen own (λ b. Asks c (next b)) response
 by_asks old mid new seen own c next r response turn s may rest =

@@ -4,5 +4,6 @@ pub mod BuildingFacts
 pub mod RowsOfBodies
 pub mod Loads
 pub mod Selecting
+pub mod Asking
 pub mod Continuing
 pub mod StepFacts

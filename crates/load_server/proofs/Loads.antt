@@ -1,21 +1,19 @@
 -- What the preparing of a load makes of its script.
-use Rattle.std.proofs.Common.{◌≡◌, ◌∙◌, ◌<◌, ◌≤◌, true, false, cond, nat_lt, ℕ, Bool, List, length, refl, sym, ap, subst, arith}
+use Rattle.std.proofs.Common.{◌≡◌, ◌∙◌, ◌<◌, ◌≤◌, true, false, cond, nat_lt, ℕ, Bool, List, length, sym, ap, subst, arith}
 use Rattle.std.proofs.lemmas.Bool.Decides.{nat_tests}
 use Rattle.csv_load.specs.Body.{body as parsed_of, records_by}
 use Rattle.csv_load.specs.Limit.{fails}
 use Rattle.csv_load.specs.Refusal.{max_records}
-use Rattle.csv_load.specs.declared.options.Options.{Options}
 use Rattle.dl_values.specs.declared.cell.Cell.{Cell}
 use Rattle.front_defs.specs.declared.command.Command.TheVariants as command
 use Rattle.front_defs.specs.May.{IsBuilt, MappedOf, Only}
 use Rattle.front_defs.specs.Stored.{AreRowsOf}
-use Rattle.front_defs.specs.Script.{Script, Asks}
+use Rattle.front_defs.specs.Script.{Asks}
 use Rattle.shadow_writes.specs.declared.built.Built.{Built}
 use Rattle.shadow_writes.specs.declared.plan.Plan.{Plan}
 use Rattle.load_server.specs.Building.{IsBuiltOf}
-use Rattle.load_server.specs.Preparing.{AreCounts, Prepares}
+use Rattle.load_server.specs.Preparing.{Prepares}
 use Rattle.load_server.specs.Reports.{failed, too_many_filtered, too_many_rows}
-use Rattle.load_server.specs.Responses.{Response}
 use Rattle.load_server.specs.Scripts.{aborting, after_submit, everywhere, reading, submitting}
 use Rattle.load_server.specs.declared.load.Load.{Load}
 use Rattle.load_server.specs.declared.prepare.Prepared.TheVariants as prepared

@@ -1,5 +1,5 @@
 -- The rows of a body are of the shape by which it is read.
-use Rattle.std.proofs.Common.{◌≡◌, ◌∙◌, ◌+◌, ◌-◌, ◌*◌, ◌/◌, ◌%◌, ◌≤◌, ◌<◌, ◌==◌, ℕ, ℤ, Bool, true, false, not, ◌&&◌, List, [], ◌∷◌, Option, Some, None, if◌then◌else◌, nat_le, length, refl, sym, ap, arith, rules}
+use Rattle.std.proofs.Common.{◌≡◌, ◌∙◌, ◌+◌, ◌*◌, ◌/◌, ◌%◌, ◌≤◌, ◌==◌, ℕ, ℤ, Bool, true, false, not, ◌&&◌, List, [], ◌∷◌, Option, Some, None, if◌then◌else◌, nat_le, length, refl, ap, arith}
 use Rattle.std.proofs.lemmas.Bool.{false≢true}
 use Rattle.std.proofs.lemmas.Bool.Decides.{nat_tests}
 use Rattle.std.specs.List.{AllByRecursion, cons_option, filter_map, list_all}
@@ -7,7 +7,7 @@ use Rattle.std.specs.Option.{option_map}
 use Rattle.std.specs.Str.{bytes_eq, is_utf8}
 use Rattle.csv_load.specs.Body.{body as parsed_of, cell_of, cells_of, null_if, onto_row, only_inside, or_null, row_of, tally, records_by}
 use Rattle.csv_load.specs.declared.options.Options.{Options}
-use Rattle.dl_values.specs.Days.{day_of, is_day, is_digit, month_days, two}
+use Rattle.dl_values.specs.Days.{day_of, is_day, is_digit, two}
 use Rattle.dl_values.specs.Read.{int_below, is_within, number_of, read, text_cell, without_blanks}
 use Rattle.dl_values.specs.Write.{null_text}
 use Rattle.dl_values.specs.declared.cell.Cell.{Cell}

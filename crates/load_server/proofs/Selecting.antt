@@ -1,13 +1,16 @@
 -- The result of a query that reads all columns, by its parts.
-use Rattle.std.proofs.Common.{◌≡◌, ◌∙◌, ℕ, List, [], ◌∷◌, map, refl, sym, ap}
+use Rattle.std.proofs.Common.{◌≡◌, ◌∙◌, ℕ, List, [], ◌∷◌, map, refl, ap}
 use Rattle.std.specs.Prelude.{codes}
-use Rattle.std.specs.List.{flat_map, zip}
+use Rattle.std.specs.declared.sync.Arc.{Arc}
+use Rattle.std.specs.List.{AllByRecursion, flat_map, zip}
 use Rattle.serde_json.specs.Data.{Data, string}
 use Rattle.reply_json.specs.Texts.{object_of}
 use Rattle.reply_json.specs.Results.{column_json, list_json, result_json, row_json, success_json}
 use Rattle.reply_texts.specs.Words.{type_text}
 use Rattle.dl_values.specs.declared.cell.Cell.{Cell}
 use Rattle.dl_values.specs.declared.result_set.ResultSet.{ResultSet}
+use Rattle.merge_read.specs.Lists.{AreSortedLists}
+use Rattle.rowsets.specs.RowsetView.{RowsetView, IsListOf, rowset_rows}
 use Rattle.schema_models.specs.Folds.{fold_of}
 use Rattle.schema_models.specs.ShapeView.{ShapeView}
 use Rattle.schema_models.specs.declared.column_def.ColumnDef.{ColumnDef}
@@ -31,3 +34,8 @@ all_same shape lists columns set e n t r =
     ∙ ap (λ (l : List (List ℕ)). json_by (fold_of shape (flat_map (λ l. l) lists)) (zip l set.types.items)) n
     ∙ ap (λ (l : List (List ℕ)). json_by (fold_of shape (flat_map (λ l. l) lists)) (zip (map (λ c. c.name) columns) l)) t
     ∙ ap (json_by (fold_of shape (flat_map (λ l. l) lists))) (columns_same columns ∙ ap (map shown_column) e)
+
+-- the lists that a reply gives are read as they are
+pub lists_sorted : {Z : Type 0} (shape : ShapeView) (lists : List (Arc RowsetView Z)) → AllByRecursion (λ l. IsListOf shape l.value) lists → AreSortedLists shape (map (λ l. rowset_rows l.value) lists)
+lists_sorted shape [] all = tt
+lists_sorted shape (l ∷ ls) all = (record { rows = all.0.sorted.rows; rising = all.0.sorted.rising }, lists_sorted shape ls all.1)

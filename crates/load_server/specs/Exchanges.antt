@@ -1,5 +1,5 @@
 -- A request that was served, and the bytes that answer it.
-use Rattle.std.specs.Prelude.{◌≡◌, ℕ, Bool, true, List, [], ◌∷◌, ◌++◌, Option, Some, None, cond}
+use Rattle.std.specs.Prelude.{ℕ, true, List, [], ◌∷◌, ◌++◌, Option, Some, None, cond}
 use Rattle.dl_values.specs.declared.cell.Cell.{Cell}
 use Rattle.shadow_writes.specs.declared.plan.Plan.{Plan}
 use Rattle.shadow_writes.specs.declared.built.Built.{Built}

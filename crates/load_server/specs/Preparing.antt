@@ -1,5 +1,5 @@
 -- What the body of a load that has begun gives: a built load, a refusal, or want of memory.
-use Rattle.std.specs.Prelude.{◌≡◌, ◌<◌, ◌≤◌, ℕ, Bool, true, false, List, length}
+use Rattle.std.specs.Prelude.{◌≡◌, ◌<◌, ◌≤◌, ℕ, true, false, List, length}
 use Rattle.csv_load.specs.Body.{body as parsed_of, records_by}
 use Rattle.csv_load.specs.Limit.{fails}
 use Rattle.csv_load.specs.Refusal.{max_records}

@@ -1,11 +1,10 @@
 -- What is written for a request that cannot be read, and how the session ends then.
-use Rattle.std.specs.Prelude.{◌≡◌, ◌≢◌, ℕ, List, Option}
+use Rattle.std.specs.Prelude.{◌≡◌, ℕ, List, Option}
 use Rattle.std.specs.Io.KnownBytes.{Appends, Keeps}
 use Rattle.dl_outside.specs.Writing.{AppendsFront}
 use Rattle.http_wire.specs.declared.error.WireError.{WireError}
 use Rattle.http_wire.specs.declared.error.WireError.TheVariants as wire
 use Rattle.load_server.specs.Exchanges.{refusal_of}
-use Rattle.load_server.specs.Sessions.{IsAt}
 use Rattle.load_server.specs.declared.session_end.SessionEnd.{SessionEnd}
 use Rattle.load_server.specs.declared.session_end.SessionEnd.TheVariants as ends
 

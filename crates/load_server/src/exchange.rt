@@ -4,12 +4,13 @@ ghost use Rattle.std.specs.Io.KnownBytes.{Appends};
 ghost use Rattle.dl_outside.specs.Faults.{HasRisen};
 ghost use Rattle.dl_outside.specs.Writing.{AppendsFront};
 ghost use Rattle.front_defs.specs.declared.history.Entry.{Entry};
-ghost use Rattle.http_wire.specs.Connections.{expects_continue};
+ghost use Rattle.http_wire.specs.Bodies.{IsSized};
+ghost use Rattle.http_wire.specs.Connections.{closes, expects_continue};
 ghost use Rattle.http_wire.specs.Reader.{input};
 ghost use Rattle.http_wire.specs.Responses.{continue_text};
 ghost use Rattle.load_server.specs.Exchanges.{interim};
 ghost use Rattle.load_server.specs.Sessions.{joined};
-ghost use Rattle.load_server.specs.Steps.{Answers, HeadRead, Step, end_after};
+ghost use Rattle.load_server.specs.Steps.{Answers, ClosesBy, HeadRead, Step, Takes, end_after};
 
 use crate::SessionEnd;
 use crate::refusal::refuse;
@@ -30,7 +31,8 @@ pub fn exchange<T: Turns, S: Source, K: Sink, C: Clock, L: Ledger>(
     clock: &mut C,
     steps: &mut Steps<L>,
 ) -> Option<SessionEnd>
-    ensures did { (seen own : List Entry) → T.stands turns.old seen own → Step reader.old.at (input reader.old (S.left source.old)) reader.new.at (input reader.new (S.left source.new)) (K.written sink.old) (K.written sink.new) (C.given clock.old) (C.given clock.new) (T.stands turns.new) seen own result }
+    ensures did { (seen own : List Entry) → T.stands turns.old seen own → Step reader.old.at (input reader.old (S.left source.old)) reader.new.at (input reader.new (S.left source.new)) (S.left source.new) (K.written sink.old) (K.written sink.new) (C.given clock.old) (C.given clock.new) (T.stands turns.new) seen own result }
+    ensures takes { IfSome (input reader.old (S.left source.old)) (Takes result reader.old.at reader.new.at (input reader.new (S.left source.new))) }
     ensures later { S.faults source.old ≤ S.faults source.new }
     ensures later_sink { K.faults sink.old ≤ K.faults sink.new }
     ensures read_fault { result ≡ Some SessionEnd.ReadFault → HasRisen (S.faults source.old) (S.faults source.new) }
@@ -54,7 +56,9 @@ fn take_in<T: Turns, S: Source, K: Sink, C: Clock, L: Ledger>(
     head: &Head,
     steps: &mut Steps<L>,
 ) -> Option<SessionEnd>
-    ensures did { (seen own : List Entry) → T.stands turns.old seen own → (at : ℕ) (text : Option (List ℕ)) → HeadRead at text head.now reader.old.at (input reader.old (S.left source.old)) → Step at text reader.new.at (input reader.new (S.left source.new)) (K.written sink.old) (K.written sink.new) (C.given clock.old) (C.given clock.new) (T.stands turns.new) seen own result }
+    requires { IsSized head.now.body }
+    ensures did { (seen own : List Entry) → T.stands turns.old seen own → (at : ℕ) (text : Option (List ℕ)) → HeadRead at text head.now reader.old.at (input reader.old (S.left source.old)) → Step at text reader.new.at (input reader.new (S.left source.new)) (S.left source.new) (K.written sink.old) (K.written sink.new) (C.given clock.old) (C.given clock.new) (T.stands turns.new) seen own result }
+    ensures takes { (at : ℕ) (text : Option (List ℕ)) → HeadRead at text head.now reader.old.at (input reader.old (S.left source.old)) → IfSome text (Takes result at reader.new.at (input reader.new (S.left source.new))) }
     ensures later { S.faults source.old ≤ S.faults source.new }
     ensures later_sink { K.faults sink.old ≤ K.faults sink.new }
     ensures read_fault { result ≡ Some SessionEnd.ReadFault → HasRisen (S.faults source.old) (S.faults source.new) }
@@ -77,7 +81,9 @@ fn take_body<T: Turns, S: Source, K: Sink, C: Clock, L: Ledger>(
     head: &Head,
     steps: &mut Steps<L>,
 ) -> Option<SessionEnd>
-    ensures did { (seen own : List Entry) → T.stands turns.old seen own → (at : ℕ) (text : Option (List ℕ)) → HeadRead at text head.now reader.old.at (input reader.old (S.left source.old)) → (start : Option (List ℕ)) → Appends start (K.written sink.old) (joined (interim head.now)) → Step at text reader.new.at (input reader.new (S.left source.new)) start (K.written sink.new) (C.given clock.old) (C.given clock.new) (T.stands turns.new) seen own result }
+    requires { IsSized head.now.body }
+    ensures did { (seen own : List Entry) → T.stands turns.old seen own → (at : ℕ) (text : Option (List ℕ)) → HeadRead at text head.now reader.old.at (input reader.old (S.left source.old)) → (start : Option (List ℕ)) → Appends start (K.written sink.old) (joined (interim head.now)) → Step at text reader.new.at (input reader.new (S.left source.new)) (S.left source.new) start (K.written sink.new) (C.given clock.old) (C.given clock.new) (T.stands turns.new) seen own result }
+    ensures takes { (at : ℕ) (text : Option (List ℕ)) → HeadRead at text head.now reader.old.at (input reader.old (S.left source.old)) → IfSome text (Takes result at reader.new.at (input reader.new (S.left source.new))) }
     ensures later { S.faults source.old ≤ S.faults source.new }
     ensures later_sink { K.faults sink.old ≤ K.faults sink.new }
     ensures read_fault { result ≡ Some SessionEnd.ReadFault → HasRisen (S.faults source.old) (S.faults source.new) }
@@ -114,6 +120,7 @@ fn answer<T: Turns, K: Sink, C: Clock, L: Ledger>(
     steps: &mut Steps<L>,
 ) -> Option<SessionEnd>
     ensures did { (seen own : List Entry) → T.stands turns.old seen own → Answers (record { head = head.now; body = body.items }) (K.written sink.old) (K.written sink.new) (C.given clock.old) (C.given clock.new) (T.stands turns.new) seen own result }
+    ensures ends { ClosesBy (closes head.now) result }
     ensures later { K.faults sink.old ≤ K.faults sink.new }
     ensures write_fault { result ≡ Some SessionEnd.WriteFault → HasRisen (K.faults sink.old) (K.faults sink.new) }
     ensures no_read { result ≡ Some SessionEnd.ReadFault → ⊥ }

@@ -43,9 +43,11 @@ fn parse(alloc: Global, plan: &Plan, options: &Options, body: Vec<u8>) -> Result
     read_body(alloc, &plan.base, None::<&()>, options, body.as_slice())
 }
 
+ghost use Rattle.front_defs.specs.Stored.{AreRowsOf};
 ghost use Rattle.load_server.specs.Preparing.{Judges};
 
 fn judge(alloc: Global, plan: Plan, options: &Options, parsed: Parsed) -> Prepared
+    requires { AreRowsOf plan.base parsed.rows }
     ensures { Judges plan options.now parsed result }
 {
     let counts = Counts {

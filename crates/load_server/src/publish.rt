@@ -1,5 +1,5 @@
 // The publish turns of a load.
-ghost use Rattle.std.specs.Prelude.{◌≡◌, List, Option, Some};
+ghost use Rattle.std.specs.Prelude.{◌≡◌, ◌+◌, List, Option, Some};
 ghost use Rattle.front_defs.specs.declared.history.Entry.{Entry};
 ghost use Rattle.front_defs.specs.Script.{Answered};
 ghost use Rattle.load_server.specs.Reports.{succeeded, delayed};
@@ -30,13 +30,12 @@ pub fn publish_from<T: Turns, L: Ledger>(
     match placed {
         None => succeeded(alloc, sent, txn, counts),
         Some(Placed { place, ahead }) => {
-            let most = ahead.saturating_add(1);
-            publish(alloc, turns, sent, at, txn, counts, place, most, steps)
+            publish(alloc, turns, sent, at, txn, counts, place, ahead, steps)
         }
     }
 }
 
-// Publishes until that place is reached, so many times at most.
+// Publishes until that place is reached: at most once, and once more for each load that was ahead.
 fn publish<T: Turns, L: Ledger>(
     alloc: Global,
     turns: &mut T,
@@ -45,12 +44,13 @@ fn publish<T: Turns, L: Ledger>(
     txn: u64,
     counts: Counts,
     place: u64,
-    most: u64,
+    ahead: u64,
     steps: &mut Steps<L>,
 ) -> Answer
-    ensures { (seen own : List Entry) → T.stands turns.old seen own → Answered (T.stands turns.new) seen own (publishing (succeeded sent.now txn counts.filtered counts.total) (delayed sent.now txn counts.filtered counts.total) at place most) (response_of result) }
+    ensures { (seen own : List Entry) → T.stands turns.old seen own → Answered (T.stands turns.new) seen own (publishing (succeeded sent.now txn counts.filtered counts.total) (delayed sent.now txn counts.filtered counts.total) at place (ahead + 1)) (response_of result) }
 {
-    for _turn in 0..most {
+    let mut more = ahead;
+    loop {
         match turns.turn(Command::Publish { at }, steps) {
             Reply::Published { place: reached, .. } => {
                 if place <= reached {
@@ -61,6 +61,9 @@ fn publish<T: Turns, L: Ledger>(
             Reply::NoMemory => return Answer::OutOfMemory,
             _ => return delayed(alloc, sent, txn, counts),
         }
+        if more == 0 {
+            return succeeded(alloc, sent, txn, counts);
+        }
+        more -= 1;
     }
-    succeeded(alloc, sent, txn, counts)
 }

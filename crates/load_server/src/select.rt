@@ -1,9 +1,11 @@
 // The turn of a query, and its result.
-ghost use Rattle.std.specs.Prelude.{◌≡◌, ◌++◌, IfOk, OnOk, List, [], map};
-ghost use Rattle.std.specs.List.{flat_map};
+ghost use Rattle.std.specs.Prelude.{◌≡◌, IfOk, List, [], map};
 ghost use Rattle.front_defs.specs.declared.history.Entry.{Entry};
 ghost use Rattle.front_defs.specs.declared.command.Command.TheVariants as command;
+ghost use Rattle.front_defs.specs.declared.reply.Reply.TheVariants as reply;
+ghost use Rattle.front_defs.specs.Gives.{Gives};
 ghost use Rattle.front_defs.specs.Script.{Answered, Asks, Served};
+ghost use Rattle.rowsets.specs.RowsetView.{rowset_rows};
 ghost use Rattle.load_server.specs.Responses.{response_of, well};
 ghost use Rattle.load_server.specs.Results.{all_json};
 ghost use Rattle.load_server.specs.Scripts.{after_snapshot, all_of, selecting, made as made_or_lacking};
@@ -13,12 +15,11 @@ ghost use Rattle.serde_json.specs.Written.{compact_text};
 use crate::answer::{Answer, made};
 use crate::statement::refused;
 use dl_outside::Steps;
-use dl_values::{Name, NoMemory, ResultSet, Row, Rows, Text};
+use dl_values::{Name, NoMemory, ResultSet, Text};
 use front_defs::{Command, Reply, Turns};
-use merge_read::Snapshot;
+use merge_read::{Snapshot, read_all};
 use reply_json::render_result;
 use reply_texts::type_text;
-use row_fold::fold_rows;
 use rowsets::Rowset;
 use schema_models::ColumnDef;
 use sql_text::Query;
@@ -72,29 +73,35 @@ fn snapshot<T: Turns, L: Ledger>(
     ensures { (seen own : List Entry) → T.stands turns.old seen own → Answered (T.stands turns.new) seen own (Asks (command.Snapshot db table query) after_snapshot) (response_of result) }
 {
     let reply = turns.turn(Command::Snapshot { db, table, query }, steps);
-    selected(alloc, &reply)
+    selected(alloc, &reply, steps)
 }
 
 // What the core's reply to a Snapshot answers.
-fn selected(alloc: Global, reply: &Reply) -> Answer
+fn selected<L: Ledger>(alloc: Global, reply: &Reply, steps: &mut Steps<L>) -> Answer
+    requires { Gives reply.now }
     ensures { Served (after_snapshot reply.now) [] (response_of result) }
 {
     match reply {
-        Reply::Snap { snapshot } => made(render_snapshot(alloc, snapshot)),
+        Reply::Snap { snapshot } => made(render_snapshot(alloc, snapshot, steps)),
         _ => refused(alloc, reply),
     }
 }
 
 #[tactic(auto, unfolding(crate::specs::Results::all_json))]
-fn render_snapshot(alloc: Global, snapshot: &Snapshot<Arc<Rowset>>) -> Result<Vec<u8>, NoMemory>
-    ensures { IfOk result (λ b. b.items ≡ compact_text (all_json snapshot.now.index (map (λ l. l.value) snapshot.now.lists))) }
+fn render_snapshot<L: Ledger>(
+    alloc: Global,
+    snapshot: &Snapshot<Arc<Rowset>>,
+    steps: &mut Steps<L>,
+) -> Result<Vec<u8>, NoMemory>
+    requires { Gives (reply.Snap snapshot.now) }
+    ensures { IfOk result (λ b. b.items ≡ compact_text (all_json snapshot.now.index (map (λ l. rowset_rows l.value) snapshot.now.lists))) }
 {
-    let rows = joined_rows(alloc, snapshot.lists.as_slice())?;
+    let rows = read_all(alloc, &snapshot.index, snapshot.lists.as_slice(), steps)?;
     let columns = snapshot.index.columns();
     let set = ResultSet {
         names: names_of(alloc, columns)?,
         types: types_of(alloc, columns)?,
-        rows: fold_rows(alloc, &snapshot.index, rows)?,
+        rows,
     };
     render_result(alloc, &set)
 }
@@ -117,25 +124,4 @@ fn types_of(alloc: Global, columns: &[ColumnDef]) -> Result<Vec<Text>, NoMemory>
         types.push(type_text(alloc, column.kind)?)?;
     }
     Ok(types)
-}
-
-// The rows of the lists, one list behind the other.
-fn joined_rows(alloc: Global, lists: &[Arc<Rowset>]) -> Result<Rows, NoMemory>
-    ensures { IfOk result (λ rows. rows ≡ flat_map (λ l. l) (map (λ l. l.value) lists.now)) }
-{
-    let mut all = Rows::new(alloc);
-    for list in lists {
-        add_rows(alloc, &mut all, list.rows())?;
-    }
-    Ok(all)
-}
-
-// Adds copies of the rows.
-fn add_rows(alloc: Global, all: &mut Rows, rows: &Rows) -> Result<(), NoMemory>
-    ensures { OnOk result (all.new ≡ all.old ++ rows.now) }
-{
-    for place in 0..rows.len() {
-        all.push(Row::from_cells(alloc, rows.row(place))?)?;
-    }
-    Ok(())
 }

@@ -2,7 +2,7 @@
 ghost use Rattle.std.specs.Prelude.{◌≡◌, ◌≤◌, List, IfSome};
 ghost use Rattle.dl_outside.specs.Faults.{HasRisen};
 ghost use Rattle.front_defs.specs.declared.history.Entry.{Entry};
-ghost use Rattle.load_server.specs.Sessions.{IsUnrefused, SessionDid};
+ghost use Rattle.load_server.specs.Sessions.{IsComplete, SessionDid};
 
 use crate::SessionEnd;
 use crate::exchange::exchange;
@@ -25,14 +25,13 @@ pub fn session<T: Turns, S: Source, K: Sink, C: Clock, L: Ledger>(
     clock: &mut C,
     steps: &mut Steps<L>,
 ) -> SessionEnd
-    ensures did { (seen own : List Entry) → T.stands turns.old seen own → SessionDid (S.left source.old) (K.written sink.old) (K.written sink.new) (C.given clock.old) (C.given clock.new) (T.stands turns.new) seen own result }
+    ensures did { (seen own : List Entry) → T.stands turns.old seen own → SessionDid (S.left source.old) (S.left source.new) (K.written sink.old) (K.written sink.new) (C.given clock.old) (C.given clock.new) (T.stands turns.new) seen own result }
     ensures later { S.faults source.old ≤ S.faults source.new }
     ensures later_sink { K.faults sink.old ≤ K.faults sink.new }
     ensures read_fault { result ≡ SessionEnd.ReadFault → HasRisen (S.faults source.old) (S.faults source.new) }
     ensures write_fault { result ≡ SessionEnd.WriteFault → HasRisen (K.faults sink.old) (K.faults sink.new) }
-    // Where no device fails, the end is Done, Refused, Enough or NoMemory, and a text of whole requests is never refused.
-    ensures complete { (HasRisen (S.faults source.old) (S.faults source.new) → ⊥) → (HasRisen (K.faults sink.old) (K.faults sink.new) → ⊥) → (result ≡ SessionEnd.ReadFault → ⊥) × (result ≡ SessionEnd.WriteFault → ⊥) }
-    ensures whole { (seen own : List Entry) → T.stands turns.old seen own → IfSome (S.left source.old) (IsUnrefused result) }
+    // Completeness: where no device fails, what the input asks for is answered, but for want of memory.
+    ensures complete { (HasRisen (S.faults source.old) (S.faults source.new) → ⊥) → (HasRisen (K.faults sink.old) (K.faults sink.new) → ⊥) → IfSome (S.left source.old) (IsComplete result) }
 {
     let mut reader = HttpReader::new();
     for _request in 0..MAX_REQUESTS {

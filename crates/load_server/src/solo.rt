@@ -26,13 +26,18 @@ impl Solo {
 }
 
 impl Turns for Solo {
+    ghost use Rattle.std.specs.Prelude.{true};
     ghost use Rattle.load_server.specs.Alone.{IsAlone};
 
     ghost stands = { λ s seen own. IsAlone s.front seen own };
 
     ghost may = { λ s command. Unit {0} };
 
+    ghost vouched = { λ s. true };
+
     fn turn<L: Ledger>(&mut self, command: Command, steps: &mut Steps<L>) -> Reply {
         self.front.step(command, steps)
     }
+
+    ghost legal = { λ s seen own vouched alone. alone.legal };
 }

@@ -33,6 +33,7 @@ layout_text (layout.BadName partition) = codes "BadName partition=" ++ partition
 layout_text (layout.DoubleName partition) = codes "DoubleName partition=" ++ partition
 layout_text (layout.Overlap partition) = codes "Overlap partition=" ++ partition
 layout_text layout.TooManyPartitions = codes "TooManyPartitions"
+layout_text layout.NoMemory = codes "NoMemory"
 
 -- of a table's definition
 abbrev pub def_text : DefError → List ℕ

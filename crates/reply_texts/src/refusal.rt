@@ -48,6 +48,7 @@ fn add_layout(out: &mut Vec<u8>, error: &LayoutError) -> Result<(), NoMemory>
             add_texts(out, b"Overlap partition=", partition.bytes())
         }
         LayoutError::TooManyPartitions => Ok(out.extend_from_slice(b"TooManyPartitions")?),
+        LayoutError::NoMemory => Ok(out.extend_from_slice(b"NoMemory")?),
     }
 }
 

@@ -56,13 +56,13 @@ exchanged front back a b = inr (record { front = front; one = a; other = b; back
 near_map : {X Y : Type 0} (f : X → Y) (xs ys : List X) → Near xs ys → Near (map f xs) (map f ys)
 near_map f xs ys (inl e) = inl (ap (map f) e)
 near_map f xs ys (inr e) = inr (record {
-    front = map f e.front;
-    one = f e.one;
-    other = f e.other;
-    back = map f e.back;
-    before = ap (map f) e.before ∙ map-append f e.front (e.one ∷ e.other ∷ e.back);
-    after = ap (map f) e.after ∙ map-append f e.front (e.other ∷ e.one ∷ e.back);
-  })
+  front = map f e.front;
+  one = f e.one;
+  other = f e.other;
+  back = map f e.back;
+  before = ap (map f) e.before ∙ map-append f e.front (e.one ∷ e.other ∷ e.back);
+  after = ap (map f) e.after ∙ map-append f e.front (e.other ∷ e.one ∷ e.back);
+})
 
 near_filter : {X : Type 0} (p : X → Bool) (xs ys : List X) → Near xs ys → Near (filter p xs) (filter p ys)
 near_filter p xs ys (inl e) = inl (ap (filter p) e)
@@ -76,13 +76,13 @@ near_filter p xs ys (inr e) = go (p e.one) (p e.other) refl refl
 
     go : (b c : Bool) → p e.one ≡ b → p e.other ≡ c → Near (filter p xs) (filter p ys)
     go true true h k = inr (record {
-        front = filter p e.front;
-        one = e.one;
-        other = e.other;
-        back = filter p e.back;
-        before = one_first ∙ ap (λ l. filter p e.front ++ l) (filter_yes p e.one (e.other ∷ e.back) h ∙ ap (λ l. e.one ∷ l) (filter_yes p e.other e.back k));
-        after = other_first ∙ ap (λ l. filter p e.front ++ l) (filter_yes p e.other (e.one ∷ e.back) k ∙ ap (λ l. e.other ∷ l) (filter_yes p e.one e.back h));
-      })
+      front = filter p e.front;
+      one = e.one;
+      other = e.other;
+      back = filter p e.back;
+      before = one_first ∙ ap (λ l. filter p e.front ++ l) (filter_yes p e.one (e.other ∷ e.back) h ∙ ap (λ l. e.one ∷ l) (filter_yes p e.other e.back k));
+      after = other_first ∙ ap (λ l. filter p e.front ++ l) (filter_yes p e.other (e.one ∷ e.back) k ∙ ap (λ l. e.other ∷ l) (filter_yes p e.one e.back h));
+    })
     go true false h k = inl (one_first ∙ ap (λ l. filter p e.front ++ l) (filter_yes p e.one (e.other ∷ e.back) h ∙ ap (λ l. e.one ∷ l) (filter_no p e.other e.back k) ∙ sym (filter_no p e.other (e.one ∷ e.back) k ∙ filter_yes p e.one e.back h)) ∙ sym other_first)
     go false true h k = inl (one_first ∙ ap (λ l. filter p e.front ++ l) (filter_no p e.one (e.other ∷ e.back) h ∙ filter_yes p e.other e.back k ∙ sym (filter_yes p e.other (e.one ∷ e.back) k ∙ ap (λ l. e.other ∷ l) (filter_no p e.one e.back h))) ∙ sym other_first)
     go false false h k = inl (one_first ∙ ap (λ l. filter p e.front ++ l) (filter_no p e.one (e.other ∷ e.back) h ∙ filter_no p e.other e.back k ∙ sym (filter_no p e.other (e.one ∷ e.back) k ∙ filter_no p e.one e.back h)) ∙ sym other_first)
@@ -191,10 +191,10 @@ module _ (base s : ShapeView) (q : Query) (xs ys : List (List Cell)) (n : Near x
   near_answer : Eval base s q xs ≡ Eval base s q ys
   unfolding Eval
   near_answer = ap (λ (rows : List (List Cell)). unless (refusal base q) (record {
-      names = map output_name (items_of base q);
-      types = map (output_type base) (items_of base q);
-      rows = limited q.limit rows;
-    })) (near_ordered (items_of base q) q.order (output_rows base s q xs) (output_rows base s q ys) near_output)
+    names = map output_name (items_of base q);
+    types = map (output_type base) (items_of base q);
+    rows = limited q.limit rows;
+  })) (near_ordered (items_of base q) q.order (output_rows base s q xs) (output_rows base s q ys) near_output)
 
 pub exchanges : (base s : ShapeView) (q : Query) (front back : List (List Cell)) (a b : List Cell) → Eval base s q (front ++ a ∷ b ∷ back) ≡ Eval base s q (front ++ b ∷ a ∷ back)
 exchanges base s q front back a b = near_answer base s q (front ++ a ∷ b ∷ back) (front ++ b ∷ a ∷ back) (exchanged front back a b)

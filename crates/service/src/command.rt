@@ -6,7 +6,7 @@ ghost use Rattle.dl_outside.specs.Writing.{AppendsFront};
 ghost use Rattle.service.specs.Columns.{bad_word, first_column, shape_of};
 ghost use Rattle.command_words.specs.Words.{form_of as form_of_words};
 ghost use Rattle.service.specs.Dryrun.{EndsBy, IfDryrun, Judges, NamesWord, exit_of_columns, fold_text};
-ghost use Rattle.service.specs.Serving.{AnsweredAll, IfRun, RanTo, RunDid, UnlessRun};
+ghost use Rattle.service.specs.Serving.{IfRun, IsAnswered, RanTo, RunDid, UnlessRun};
 
 use crate::Exit;
 use crate::columns::{model_of, read_shape};
@@ -63,7 +63,8 @@ fn serve<S: Source, K: Sink, C: Clock, L: Ledger>(
     clock: &mut C,
     steps: &mut Steps<L>,
 ) -> Exit
-    ensures served { RanTo result (RunDid (S.left source.old) (K.written sink.old) (K.written sink.new) (C.given clock.old) (C.given clock.new)) }
+    ensures served { RanTo result (RunDid (S.left source.old) (S.left source.new) (K.written sink.old) (K.written sink.new) (C.given clock.old) (C.given clock.new)) }
+    ensures answered { (HasRisen (S.faults source.old) (S.faults source.new) → ⊥) → (HasRisen (K.faults sink.old) (K.faults sink.new) → ⊥) → IfSome (S.left source.old) (IsAnswered result) }
     ensures read_fault { result ≡ Exit.ReadFault → HasRisen (S.faults source.old) (S.faults source.new) }
     ensures write_fault { result ≡ Exit.WriteFault → HasRisen (K.faults sink.old) (K.faults sink.new) }
     ensures later { S.faults source.old ≤ S.faults source.new }
@@ -90,7 +91,7 @@ pub fn run<S: Source, K: Sink, C: Clock, L: Ledger>(
     steps: &mut Steps<L>,
 ) -> Exit
     // One legal history: what `run` did.
-    ensures served { IfRun (form_of_words (map string_bytes words.now)) (RanTo result (RunDid (S.left source.old) (K.written sink.old) (K.written sink.new) (C.given clock.old) (C.given clock.new))) }
+    ensures served { IfRun (form_of_words (map string_bytes words.now)) (RanTo result (RunDid (S.left source.old) (S.left source.new) (K.written sink.old) (K.written sink.new) (C.given clock.old) (C.given clock.new))) }
 
     // What `dryrun` writes: on success the text of the fold, and a front of it where a write failed.
     ensures ok { IfDryrun (form_of_words (map string_bytes words.now)) (λ model columns. result ≡ Exit.Ok → IfSome (S.left source.old) (λ body. Appends (K.written sink.old) (K.written sink.new) (fold_text (shape_of model columns) body))) }
@@ -107,9 +108,9 @@ pub fn run<S: Source, K: Sink, C: Clock, L: Ledger>(
     ensures write_fault { result ≡ Exit.WriteFault → HasRisen (K.faults sink.old) (K.faults sink.new) }
     ensures judged { IfDryrun (form_of_words (map string_bytes words.now)) (λ model columns. IfSome (S.left source.old) (λ body. Judges (exit_of_columns model columns body) result)) }
 
-    // An honest run is answered: where no device fails, by what the words and the body ask for, or by want of memory.
+    // Completeness: where no device fails, what the words and the input ask for is answered, but for want of memory.
     ensures complete { (HasRisen (S.faults source.old) (S.faults source.new) → ⊥) → (HasRisen (K.faults sink.old) (K.faults sink.new) → ⊥) → IfDryrun (form_of_words (map string_bytes words.now)) (λ model columns. IfSome (S.left source.old) (λ body. EndsBy (exit_of_columns model columns body) result)) }
-    ensures answered { (HasRisen (S.faults source.old) (S.faults source.new) → ⊥) → (HasRisen (K.faults sink.old) (K.faults sink.new) → ⊥) → IfRun (form_of_words (map string_bytes words.now)) (AnsweredAll result) }
+    ensures answered { (HasRisen (S.faults source.old) (S.faults source.new) → ⊥) → (HasRisen (K.faults sink.old) (K.faults sink.new) → ⊥) → IfRun (form_of_words (map string_bytes words.now)) (IfSome (S.left source.old) (IsAnswered result)) }
 
     ensures later { S.faults source.old ≤ S.faults source.new }
     ensures later_sink { K.faults sink.old ≤ K.faults sink.new }

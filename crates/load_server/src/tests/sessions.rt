@@ -1,17 +1,114 @@
 // Sessions with exact bytes.
-use super::replies::{Run, begun, pairs, ran};
+use super::replies::{Told, ran};
 use super::texts::*;
 use crate::SessionEnd;
-use dl_values::{Cell, NoMemory, Row, Rows};
-use front_defs::{Placed, Reply};
-use labels::TxnState;
-use merge_read::Snapshot;
-use rowsets::Rowset;
-use sqlite_items::Items;
+use dl_values::NoMemory;
 use std::alloc::Global;
-use std::process::Abort;
-use std::sync::Arc;
 use std::test::Fail;
+
+// What is sent, what the core replies, the commands that it was asked, and what is written.
+#[derive(Clone, Copy)]
+struct Case {
+    sent: &'static [u8],
+    told: &'static [Told],
+    asked: &'static [u8],
+    written: &'static [&'static [u8]],
+}
+
+const LOADS: [Case; 10] = [
+    Case {
+        sent: LOAD,
+        told: &[Told::Begun(1), Told::Submitted(1, 0), Told::Published(1, 1)],
+        asked: b"BSP",
+        written: &[CONTINUE, LOADED],
+    },
+    // The publish turns go on until the place of the load is reached,
+    Case {
+        sent: LOAD,
+        told: &[
+            Told::Begun(1),
+            Told::Submitted(3, 2),
+            Told::Published(4, 1),
+            Told::Published(5, 2),
+            Told::Published(1, 3),
+        ],
+        asked: b"BSPPP",
+        written: &[CONTINUE, LOADED],
+    },
+    // once for each load that was ahead, and once more,
+    Case {
+        sent: LOAD,
+        told: &[
+            Told::Begun(1),
+            Told::Submitted(3, 1),
+            Told::Published(4, 1),
+            Told::Published(5, 2),
+            Told::Fault,
+        ],
+        asked: b"BSPP",
+        written: &[CONTINUE, LOADED],
+    },
+    // until a fault comes,
+    Case {
+        sent: LOAD,
+        told: &[Told::Begun(1), Told::Submitted(3, 2), Told::Fault],
+        asked: b"BSP",
+        written: &[CONTINUE, LATE],
+    },
+    // or nothing waits.
+    Case {
+        sent: LOAD,
+        told: &[Told::Begun(1), Told::Submitted(3, 2), Told::Nothing],
+        asked: b"BSP",
+        written: &[CONTINUE, LOADED],
+    },
+    Case {
+        sent: LOAD,
+        told: &[Told::Used(1)],
+        asked: b"B",
+        written: &[CONTINUE, USED],
+    },
+    // A load that fails is aborted,
+    Case {
+        sent: STRAY,
+        told: &[Told::Begun(7), Told::Aborted(7)],
+        asked: b"BA",
+        written: &[FILTERED],
+    },
+    Case {
+        sent: LOAD,
+        told: &[Told::Begun(1), Told::Expired(7), Told::Aborted(1)],
+        asked: b"BSA",
+        written: &[CONTINUE, EXPIRED],
+    },
+    // and so is one that finds no memory.
+    Case {
+        sent: LOAD,
+        told: &[Told::Begun(1), Told::Short, Told::Aborted(1)],
+        asked: b"BSA",
+        written: &[CONTINUE, OUT_OF_MEMORY],
+    },
+    Case {
+        sent: LOAD,
+        told: &[Told::UnknownTable],
+        asked: b"B",
+        written: &[CONTINUE, UNKNOWN_TABLE],
+    },
+];
+
+const FAULT: Case = Case {
+    sent: LOAD,
+    told: &[Told::Begun(1), Told::Fault],
+    asked: b"BS",
+    written: &[CONTINUE, KEEPER_FAULT],
+};
+
+const STATEMENTS: Case = Case {
+    sent: b"",
+    told: &[Told::Done, Told::DbExists, Told::TwoLists, Told::TwoLists],
+    asked: b"DDQQ",
+    written: &[DONE, NOT_FOUND, EXISTS, UNSUPPORTED, ROWS, LAST_ROWS],
+};
 
 fn joined(alloc: Global, parts: &[&[u8]]) -> Result<Vec<u8>, NoMemory> {
     let mut all = Vec::new(alloc);
@@ -21,171 +118,25 @@ fn joined(alloc: Global, parts: &[&[u8]]) -> Result<Vec<u8>, NoMemory> {
     Ok(all)
 }
 
-// The session asked for these commands, and wrote these texts.
-fn did(
-    rt: &impl Abort,
-    alloc: Global,
-    run: &Run,
-    end: SessionEnd,
-    asked: &[u8],
-    parts: &[&[u8]],
-) -> Result<(), NoMemory> {
-    let wanted = joined(alloc, parts)?;
-    assert_eq!(rt; run.end, end);
-    assert_eq!(rt; run.asked.as_slice(), asked);
-    assert_eq!(rt; run.written.as_slice(), wanted.as_slice());
-    Ok(())
+// Whether the session that is sent this ends well, asks for the commands and writes the texts of a case.
+fn goes_so(alloc: Global, sent: &[u8], case: Case) -> Result<bool, NoMemory> {
+    let run = ran(alloc, sent, case.told, &[])?;
+    let wanted = joined(alloc, case.written)?;
+    Ok(
+        run.end == SessionEnd::Done
+            && run.asked.as_slice() == case.asked
+            && run.written.as_slice() == wanted.as_slice(),
+    )
 }
 
-// What a load answers whose Begin is answered, and then its further commands, the last reply first.
-fn load_replies(alloc: Global, txn: u64, further: Vec<Reply>) -> Result<Vec<Reply>, NoMemory> {
-    let mut replies = further;
-    replies.push(begun(alloc, txn)?)?;
-    Ok(replies)
-}
-
-fn submitted(place: u64, ahead: u64) -> Reply {
-    Reply::Submitted {
-        placed: Some(Placed { place, ahead }),
+#[test]
+fn loads_are_answered_by_what_the_core_replies(rt: HostRuntime) -> Result<(), Fail> {
+    for case in LOADS {
+        let well = goes_so(rt.alloc(), case.sent, case)?;
+        assert!(rt; well);
     }
-}
-
-fn row(alloc: Global, k: i64, v: i64) -> Result<Row, NoMemory> {
-    let mut row = Row::new(alloc);
-    row.push(Cell::Int(k))?;
-    row.push(Cell::Int(v))?;
-    Ok(row)
-}
-
-// Two stored lists.
-fn snapshot(alloc: Global) -> Result<Reply, NoMemory> {
-    let mut first = Rows::new(alloc);
-    first.push(row(alloc, 1, 6)?)?;
-    first.push(row(alloc, 2, 7)?)?;
-    let mut second = Rows::new(alloc);
-    second.push(row(alloc, 1, 5)?)?;
-    let mut lists = Items::new(alloc);
-    lists.push(Arc::new(alloc, Rowset::of_folded(first))?)?;
-    lists.push(Arc::new(alloc, Rowset::of_folded(second))?)?;
-    let base = pairs(alloc)?;
-    let index = pairs(alloc)?;
-    Ok(Reply::Snap {
-        snapshot: Snapshot { base, index, lists },
-    })
-}
-
-#[test]
-fn a_load_is_begun_submitted_and_published(rt: HostRuntime) -> Result<(), Fail> {
-    let alloc = rt.alloc();
-    let further = vec![in alloc; Reply::Published { txn: 1, place: 1 }, submitted(1, 0)]?;
-    let run = ran(alloc, LOAD, load_replies(alloc, 1, further)?, &[])?;
-    did(
-        &rt,
-        alloc,
-        &run,
-        SessionEnd::Done,
-        b"BSP",
-        &[CONTINUE, LOADED],
-    )?;
-    Ok(())
-}
-
-#[test]
-fn publish_turns_go_on_until_the_load_is_reached(rt: HostRuntime) -> Result<(), Fail> {
-    let alloc = rt.alloc();
-    let further = vec![in alloc;
-        Reply::Published { txn: 1, place: 3 },
-        Reply::Published { txn: 5, place: 2 },
-        Reply::Published { txn: 4, place: 1 },
-        submitted(3, 2),
-    ]?;
-    let run = ran(alloc, LOAD, load_replies(alloc, 1, further)?, &[])?;
-    did(
-        &rt,
-        alloc,
-        &run,
-        SessionEnd::Done,
-        b"BSPPP",
-        &[CONTINUE, LOADED],
-    )?;
-    let further = vec![in alloc; Reply::KeeperFault, submitted(3, 2)]?;
-    let run = ran(alloc, LOAD, load_replies(alloc, 1, further)?, &[])?;
-    did(
-        &rt,
-        alloc,
-        &run,
-        SessionEnd::Done,
-        b"BSP",
-        &[CONTINUE, LATE],
-    )?;
-    let further = vec![in alloc; Reply::NothingToPublish, submitted(3, 2)]?;
-    let run = ran(alloc, LOAD, load_replies(alloc, 1, further)?, &[])?;
-    did(
-        &rt,
-        alloc,
-        &run,
-        SessionEnd::Done,
-        b"BSP",
-        &[CONTINUE, LOADED],
-    )?;
-    Ok(())
-}
-
-#[test]
-fn a_retry_tells_the_state_of_its_label(rt: HostRuntime) -> Result<(), Fail> {
-    let alloc = rt.alloc();
-    let state = TxnState::Visible;
-    let replies = vec![in alloc; Reply::Used { txn: 1, state }]?;
-    let run = ran(alloc, LOAD, replies, &[])?;
-    did(&rt, alloc, &run, SessionEnd::Done, b"B", &[CONTINUE, USED])?;
-    Ok(())
-}
-
-#[test]
-fn a_load_that_fails_is_aborted(rt: HostRuntime) -> Result<(), Fail> {
-    let alloc = rt.alloc();
-    let further = vec![in alloc; Reply::Aborted { txn: 7 }]?;
-    let run = ran(alloc, STRAY, load_replies(alloc, 7, further)?, &[])?;
-    did(&rt, alloc, &run, SessionEnd::Done, b"BA", &[FILTERED])?;
-    let further = vec![in alloc; Reply::Aborted { txn: 1 }, Reply::Expired { since: 7 }]?;
-    let run = ran(alloc, LOAD, load_replies(alloc, 1, further)?, &[])?;
-    did(
-        &rt,
-        alloc,
-        &run,
-        SessionEnd::Done,
-        b"BSA",
-        &[CONTINUE, EXPIRED],
-    )?;
-    let further = vec![in alloc; Reply::Aborted { txn: 1 }, Reply::NoMemory]?;
-    let run = ran(alloc, LOAD, load_replies(alloc, 1, further)?, &[])?;
-    did(
-        &rt,
-        alloc,
-        &run,
-        SessionEnd::Done,
-        b"BSA",
-        &[CONTINUE, OUT_OF_MEMORY],
-    )?;
-    let further = vec![in alloc; Reply::KeeperFault]?;
-    let run = ran(alloc, LOAD, load_replies(alloc, 1, further)?, &[])?;
-    did(
-        &rt,
-        alloc,
-        &run,
-        SessionEnd::Done,
-        b"BS",
-        &[CONTINUE, KEEPER_FAULT],
-    )?;
-    let run = ran(alloc, LOAD, vec![in alloc; Reply::UnknownTable]?, &[])?;
-    did(
-        &rt,
-        alloc,
-        &run,
-        SessionEnd::Done,
-        b"B",
-        &[CONTINUE, UNKNOWN_TABLE],
-    )?;
+    let well = goes_so(rt.alloc(), FAULT.sent, FAULT)?;
+    assert!(rt; well);
     Ok(())
 }
 
@@ -193,14 +144,7 @@ fn a_load_that_fails_is_aborted(rt: HostRuntime) -> Result<(), Fail> {
 fn statements_are_answered_in_their_order(rt: HostRuntime) -> Result<(), Fail> {
     let alloc = rt.alloc();
     let input = joined(alloc, &[CREATE, GET, CREATE, OTHER, SELECT, CLOSE, CREATE])?;
-    let replies = vec![in alloc;
-        snapshot(alloc)?,
-        snapshot(alloc)?,
-        Reply::DbExists,
-        Reply::Done,
-    ]?;
-    let run = ran(alloc, input.as_slice(), replies, &[])?;
-    let wanted = [DONE, NOT_FOUND, EXISTS, UNSUPPORTED, ROWS, LAST_ROWS];
-    did(&rt, alloc, &run, SessionEnd::Done, b"DDQQ", &wanted)?;
+    let well = goes_so(alloc, input.as_slice(), STATEMENTS)?;
+    assert!(rt; well);
     Ok(())
 }

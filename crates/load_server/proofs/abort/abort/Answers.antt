@@ -1,6 +1,4 @@
-use Rattle.std.proofs.Common.{refl, sym, subst, List}
-use Rattle.front_defs.specs.Script.{Script, Served}
-use Rattle.load_server.specs.Responses.{Response, response_of}
+use Rattle.std.proofs.Common.{refl}
 use Rattle.load_server.specs.Scripts.{after_abort}
 use Rattle.load_server.proofs.Going.{answered_asks_now}
 use Rattle.load_server.proofs.Answering.{abort_other}

@@ -1,19 +1,18 @@
 use Rattle.std.proofs.Common.{◌≡◌, ◌∙◌, refl, sym, ap, subst, inl, List, ℕ, Option, false, ◌∷◌}
-use Rattle.front_defs.specs.declared.command.Command.{Command}
 use Rattle.front_defs.specs.declared.command.Command.TheVariants as command
 use Rattle.front_defs.specs.declared.history.Entry.{Entry}
 use Rattle.front_defs.specs.declared.history.Entry.TheVariants.{Made}
 use Rattle.front_defs.specs.declared.reply.Reply.{Reply}
 use Rattle.front_defs.specs.May.{Carries}
 use Rattle.load_server.specs.Scripts.{after_begin}
-use Rattle.load_server.proofs.Going.{Turn, Way, answered_asks_now, answered_now, by_any, by_as, by_asks}
+use Rattle.load_server.proofs.Going.{Turn, answered_now, by_any, by_as, by_asks}
 use Rattle.load_server.proofs.Answering.{begin_other}
 use Rattle.load_server.proofs.loading.begin.Goals as goal
 
 -- the command with copies of the name and the label is that with the name and the label
-same_turn : (old new : List Entry → List Entry → Type 0) (db db_copy table : List ℕ) (label label_copy : Option (List ℕ)) (at : ℕ) (r : Reply) → db_copy ≡ db → label_copy ≡ label → Turn old new (command.Begin db_copy table label_copy false at) r → Turn old new (command.Begin db table label false at) r
-same_turn old new db db_copy table label label_copy at r e f turn =
-    subst (λ (d : List ℕ). Turn old new (command.Begin d table label false at) r) e (subst (λ (l : Option (List ℕ)). Turn old new (command.Begin db_copy table l false at) r) f turn)
+same_turn : {n m : ℕ} (old new : List Entry → List Entry → Type 0) (db db_copy table : List ℕ) (label label_copy : Option (List ℕ)) (at : ℕ) (r : Reply) → db_copy ≡ db → label_copy ≡ label → Turn old new n m (command.Begin db_copy table label_copy false at) r → Turn old new n m (command.Begin db table label false at) r
+same_turn {n} {m} old new db db_copy table label label_copy at r e f turn =
+    subst (λ (d : List ℕ). Turn old new n m (command.Begin d table label false at) r) e (subst (λ (l : Option (List ℕ)). Turn old new n m (command.Begin db_copy table l false at) r) f turn)
 
 pub proceed-requires : goal.proceed-requires
 proceed-requires g c = λ next b h. c.turn.ensures.follows next b (rw c.in-Begun.is h)

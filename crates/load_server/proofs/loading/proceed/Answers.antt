@@ -1,7 +1,7 @@
-use Rattle.std.proofs.Common.{refl, ap}
+use Rattle.std.proofs.Common.{refl}
 use Rattle.front_defs.specs.declared.command.Command.TheVariants as command
 use Rattle.load_server.specs.Reports.{failed, too_many_filtered, too_many_rows}
-use Rattle.load_server.specs.Scripts.{giving_up, reading}
+use Rattle.load_server.specs.Scripts.{reading}
 use Rattle.load_server.proofs.BuildingFacts.{building_at, building_is, place_of}
 use Rattle.load_server.proofs.Going.{answered_as, answered_done, by_any, by_as, by_done, by_lacking}
 use Rattle.load_server.proofs.Loads.{is_built, reading_filtered, reading_many, reading_ready}

@@ -1,5 +1,4 @@
 use Rattle.std.proofs.Common.{◌∙◌, refl, sym, ap, ℕ}
-use Rattle.load_requests.specs.declared.request.Request.{Request}
 use Rattle.load_server.specs.Scripts.{loading, script_of}
 use Rattle.load_server.proofs.Going.{answered_now, by_any, by_as}
 use Rattle.load_server.proofs.respond.serve.Goals as goal

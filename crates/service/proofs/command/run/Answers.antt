@@ -13,4 +13,4 @@ dryrun-requires g c =
     rw (sym long) (rw same some)
 
 pub returns-in-Err-NoMemory-clause-served : goal.returns-in-Err-NoMemory-clause-served
-returns-in-Err-NoMemory-clause-served g c = ran_no_form (form_of (map string_bytes c.args.words.now)) (g.S.Source.left c.args.source.now) (g.K.Sink.written c.args.sink.now) (g.C.Clock.given c.args.clock.now)
+returns-in-Err-NoMemory-clause-served g c = ran_no_form (form_of (map string_bytes c.args.words.now)) (g.S.Source.left c.args.source.now) (g.S.Source.left c.args.source.now) (g.K.Sink.written c.args.sink.now) (g.C.Clock.given c.args.clock.now)

@@ -17,6 +17,11 @@ returns-clause-turned g c = λ seen own h may.
       command_is = refl;
       reply_is = refl;
       others = [];
-      now = record { stands = c.step.ensures.stands seen [] h.stands h.legal allowed; legal = legal; same = ap (λ (H : List Entry). Made call ∷ H) h.same };
-      legal = legal;
+      now = record {
+        stands = c.step.ensures.stands seen [] h.stands h.legal allowed;
+        legal = legal;
+        unmarked = (record { opened = refl; rose = refl; took = refl; faults_in = refl; faults_out = refl }, h.unmarked);
+        same = ap (λ (H : List Entry). Made call ∷ H) h.same;
+      };
+      quiet = λ q. c.step.ensures.quiet;
     }

@@ -13,10 +13,12 @@ returns c =
     let compaction = c.in_ok-compaction.compaction in
     let shared = c.in_ok-compaction.ensures.lists ∙ ap (λ (ls : List StoredList). map (λ l. l.rowset) ls) c.deref.ensures.value in
     let five : 5 ≤ length items = omega (arith, c.deref.ensures.len, ap length c.deref.ensures.value, c.len.ensures, c.if-len-lt5.false) in
-    subst (λ (t : TabletView). (5 ≤ length t.lists) × IsCompactionOf t compaction) c.self.view_is
-    (five, record {
-      shape = c.in_ok-compaction.ensures.shape;
-      versions = c.in_ok-compaction.ensures.versions ∙ ap versions_of c.deref.ensures.value;
-      lists = shared;
-      sorted = sorted_shared c.self.inside.shape (λ (l : Arc Rowset Global). l.value) compaction.lists items c.self.invariant.sorted shared
-    })
+    subst (λ (t : TabletView). (5 ≤ length t.lists) × IsCompactionOf t compaction) c.self.view_is (
+      five,
+      record {
+        shape = c.in_ok-compaction.ensures.shape;
+        versions = c.in_ok-compaction.ensures.versions ∙ ap versions_of c.deref.ensures.value;
+        lists = shared;
+        sorted = sorted_shared c.self.inside.shape (λ (l : Arc Rowset Global). l.value) compaction.lists items c.self.invariant.sorted shared;
+      },
+    )
