@@ -19,7 +19,7 @@ use Rattle.front_defs.specs.declared.tablet_lists.TabletLists.{TabletLists}
 use Rattle.front_defs.specs.declared.reply.Reply.{Reply}
 use Rattle.front_defs.specs.declared.reply.Reply.TheVariants as reply
 use Rattle.front_defs.specs.declared.command.Command.TheVariants as command
-use Rattle.front_defs.specs.Answer.{placed_for, snapshot_refusals, Answer, Shows, ShownFor, ShowsBase}
+use Rattle.front_defs.specs.Answer.{placed_for, snapshot_refusals, Answer, Shows, ShownFor, ShowsBase, Submits}
 use Rattle.front_defs.specs.Catalogue.{is_named, table_named, table_at, db_in, db_of, databases_of, tables_of}
 use Rattle.front_defs.specs.Journal.{There}
 use Rattle.front_defs.specs.May.{IsBuilt, Only, MappedOf}
@@ -99,6 +99,10 @@ taken_by v Es id built at t found p asc homes shapes b s =
 takes_by : (v new : View) (Es : List Event) (id : ℕ) (built : Built) (at : ℕ) (o : Option Txn) → txn_at id (txns_of Es) ≡ o → TakesRows o id built.rows (set_rows built.targets) at v new → IsFront v → Ascends (txns_of Es) → Each (HasHome (tables_of Es)) (txns_of Es) → Each (HasShape (tables_of Es) id built.plan.base) (txns_of Es) → IsBuilt built.plan built → StandsOpen v Es → Acts v new Es (command.Submit id built at)
 takes_by v new Es id built at None found h p asc homes shapes b s = absurd h
 takes_by v new Es id built at (Some t) found h p asc homes shapes b s = subst (λ (x : View). Acts v x Es (command.Submit id built at)) (sym h) (taken_by v Es id built at t found p asc homes shapes b s)
+
+-- what answers a Submit after what the front has answers it after what happened
+pub submits : (v : View) (Es : List Event) (id : ℕ) (built : Built) (at : ℕ) (r : Reply) → Submits id at v.txns v.places r → StandsOpen v Es → Answer Es (command.Submit id built at) r
+submits v Es id built at r h s = rw (s.txns.txns, s.txns.places) at h
 
 pub takes_load : (v new : View) (Es : List Event) (id : ℕ) (built : Built) (at : ℕ) → TakesRows (txn_at id v.txns) id built.rows (set_rows built.targets) at v new → IsFront v → Ascends (txns_of Es) → Each (HasHome (tables_of Es)) (txns_of Es) → Each (HasShape (tables_of Es) id built.plan.base) (txns_of Es) → IsBuilt built.plan built → StandsOpen v Es → Acts v new Es (command.Submit id built at)
 takes_load v new Es id built at h p asc homes shapes b s = takes_by v new Es id built at (txn_at id v.txns) (ap (txn_at id) (sym s.txns.txns)) h p asc homes shapes b s

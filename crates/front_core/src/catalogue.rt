@@ -117,10 +117,10 @@ impl Catalogue {
             Some(number) => number,
             None => return Err(NoMemory),
         };
+        self.tablets.reserve(1)?;
+        let tablets = new_tablets(alloc, number)?;
         let key = TableKey::new(alloc, &db, &name)?;
         let table = new_table(alloc, number, db, name, made)?;
-        let tablets = new_tablets(alloc, number)?;
-        self.tablets.reserve(1)?;
         put_table(&mut self.tables, key, table)?;
         self.tablets.push(tablets)?;
         self.last_table = number;

@@ -10,7 +10,7 @@ use Rattle.front_defs.specs.Stands.{Stands}
 use Rattle.front_core.specs.Made.{made}
 use Rattle.front_core.proofs.Going.{stands_on, legal_on}
 use Rattle.front_core.proofs.Opens.{makes_db, makes_table, begins_load, ends_load}
-use Rattle.front_core.proofs.Rows.{takes_load, publishes_load, snaps}
+use Rattle.front_core.proofs.Rows.{built_fits, publishes_load, snaps, submits, takes_load}
 use Rattle.front_core.proofs.front.Front.step.Goals as goal
 
 pub returns-in-CreateDb-clause-stands : goal.returns-in-CreateDb-clause-stands
@@ -40,6 +40,15 @@ returns-in-Submit-clause-stands g c = λ H seat s l m.
     subst (λ (x : Command). Stands c.submit.new.self (Made (made seat x c.submit.result) ∷ H)) (sym k.is)
     (stands_on c.args.self.now c.submit.new.self H seat (command.Submit k.txn k.built k.at) c.submit.result c.vouch.ensures c.submit.ensures.calm c.submit.ensures.works c.submit.ensures.kept
     (λ w o. takes_load c.args.self.now c.submit.new.self (happened H) k.txn k.built k.at (c.submit.ensures.well w) c.vouch.ensures (c.transactions_have_numbers_of_their_own.ensures.ascend H l) (c.transactions_are_of_live_tables.ensures.homes H l) (c.a_submitted_load_is_of_its_table.ensures.shape H k.txn k.built k.at l (subst (May H) k.is m)) (c.a_submitted_load_is_of_its_table.ensures.built H k.txn k.built k.at (subst (May H) k.is m)) o) s)
+
+pub returns-in-Submit-clause-legal : goal.returns-in-Submit-clause-legal
+returns-in-Submit-clause-legal g c = λ H seat s l m.
+    let k = c.in-Submit in
+    let may = subst (May H) k.is m in
+    let fits = built_fits k.built (c.a_submitted_load_is_of_its_table.ensures.built H k.txn k.built k.at may) in
+    subst (λ (x : Command). Legal (Made (made seat x c.submit.result) ∷ H)) (sym k.is)
+    (legal_on c.args.self.now H seat (command.Submit k.txn k.built k.at) c.submit.result c.vouch.ensures c.submit.ensures.works
+    (λ o. submits c.args.self.now (happened H) k.txn k.built k.at c.submit.result (c.submit.ensures.answer fits) o) s l may)
 
 pub returns-in-Publish-clause-stands : goal.returns-in-Publish-clause-stands
 returns-in-Publish-clause-stands g c = λ H seat s l m.
