@@ -7,6 +7,3 @@ mod merge;
 
 pub use cells::merge_cells;
 pub use merge::Merge;
-
-#[cfg(test)]
-mod tests;

@@ -11,6 +11,3 @@ mod options;
 pub use columns::Columns;
 pub use form::{Form, form_of};
 pub use form_error::FormError;
-
-#[cfg(test)]
-mod tests;

@@ -18,6 +18,3 @@ pub use inside::Inside;
 pub use limit::fails;
 pub use options::{OptionError, Options};
 pub use parsed::Parsed;
-
-#[cfg(test)]
-mod tests;

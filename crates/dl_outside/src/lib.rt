@@ -12,8 +12,6 @@ mod real;
 mod sink;
 mod source;
 mod steps;
-#[cfg(test)]
-mod tests;
 
 pub use clock::{Clock, ListClock, SystemClock};
 pub use memory_sink::MemorySink;

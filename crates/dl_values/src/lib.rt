@@ -33,6 +33,3 @@ pub use row_view::RowView;
 pub use rows::Rows;
 pub use text::Text;
 pub use write::write_cell;
-
-#[cfg(test)]
-mod tests;

@@ -16,8 +16,6 @@ mod length;
 mod make;
 mod reader;
 mod response;
-#[cfg(test)]
-mod tests;
 
 pub use error::WireError;
 pub use fields::Fields;

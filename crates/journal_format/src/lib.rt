@@ -4,6 +4,3 @@
 mod encoded_rows;
 
 pub use encoded_rows::EncodedRows;
-
-#[cfg(test)]
-mod tests;

@@ -9,6 +9,3 @@ mod txn_state;
 pub use binding::{BindError, Binding};
 pub use book::LabelBook;
 pub use txn_state::TxnState;
-
-#[cfg(test)]
-mod tests;

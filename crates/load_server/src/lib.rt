@@ -25,6 +25,3 @@ mod submit;
 pub use session_end::SessionEnd;
 pub use sessions::{MAX_REQUESTS, session};
 pub use solo::Solo;
-
-#[cfg(test)]
-mod tests;

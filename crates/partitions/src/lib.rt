@@ -19,6 +19,3 @@ pub use layout::Layout;
 pub use layout_error::LayoutError;
 pub use part_def::{Bounds, PartDef};
 pub use parts_def::PartsDef;
-
-#[cfg(test)]
-mod tests;

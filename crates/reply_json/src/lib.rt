@@ -17,6 +17,3 @@ pub use load_report::LoadReport;
 pub use refusal::{render_error, render_refusal, render_refused};
 pub use result::{render_done, render_result};
 pub use stmt_body::read_stmt_body;
-
-#[cfg(test)]
-mod tests;

@@ -7,6 +7,3 @@ mod words;
 
 pub use refusal::refusal_text;
 pub use words::{job_text, state_text, type_text};
-
-#[cfg(test)]
-mod tests;

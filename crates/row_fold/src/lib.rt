@@ -18,6 +18,3 @@ pub use folds::{fold_rows, fold_rows_of};
 pub use lists::{fold, fold_sorted};
 pub use prefix::prefix_of_view;
 pub use sorted_rows::SortedRows;
-
-#[cfg(test)]
-mod tests;

@@ -4,6 +4,3 @@
 mod rowset;
 
 pub use rowset::Rowset;
-
-#[cfg(test)]
-mod tests;

@@ -27,8 +27,3 @@ pub use role::Role;
 pub use row_test::is_of_shape;
 pub use shape::Shape;
 pub use shape_error::ShapeError;
-
-#[cfg(test)]
-mod fold_tests;
-#[cfg(test)]
-mod tests;

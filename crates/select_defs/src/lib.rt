@@ -21,6 +21,3 @@ pub use item_names::{output_names, output_types, type_text};
 pub use items::items_of;
 pub use refusals::refusal;
 pub use select_error::SelectError;
-
-#[cfg(test)]
-mod tests;

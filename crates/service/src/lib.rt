@@ -12,10 +12,3 @@ mod type_words;
 
 pub use command::run;
 pub use exit::Exit;
-
-#[cfg(test)]
-mod run_tests;
-#[cfg(test)]
-mod tests;
-#[cfg(test)]
-mod type_tests;

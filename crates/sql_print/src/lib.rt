@@ -16,6 +16,3 @@ mod writer;
 pub use stmt::print_stmt;
 pub use tokens::print_tokens;
 pub use writer::TokenWriter;
-
-#[cfg(test)]
-mod tests;

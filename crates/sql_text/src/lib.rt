@@ -30,6 +30,3 @@ pub use query::{AggFn, Check, CompareOp, Filter, Item, Literal, OrderBy, OrderKe
 pub use sql_error::{SqlError, SqlKind};
 pub use stmt::{AdminTask, AlterKind, Stmt, TransactionKey};
 pub use table_def::{ColumnText, ColumnType, DefaultText, Property, Ranges, TableDef};
-
-#[cfg(test)]
-mod tests;

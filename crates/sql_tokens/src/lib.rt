@@ -14,6 +14,3 @@ mod token;
 pub use list::Tokens;
 pub use read::tokens;
 pub use token::{Sign, Token, TokenKind};
-
-#[cfg(test)]
-mod tests;

@@ -11,6 +11,3 @@ mod parts;
 pub use def_error::DefError;
 pub use definition::define;
 pub use parts::part_of;
-
-#[cfg(test)]
-mod tests;

@@ -1,4 +1,0 @@
-use Rattle.load_server.proofs.tests.alone.alone.Given as goal
-
-abbrev pub ghosts-session_alone : goal.ghosts-session_alone
-ghosts-session_alone a = record { name = a.blank.name; parts = a.blank.parts }

@@ -1,4 +1,0 @@
-use Rattle.service.proofs.tests.words_are_judged_in_order.Given as goal
-
-abbrev pub ghosts-answer : goal.ghosts-answer
-ghosts-answer g a = record { name = a.blank.name; parts = a.blank.parts }

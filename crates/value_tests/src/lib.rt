@@ -1,0 +1,21 @@
+//! Tests of the outside, of values, merges, shapes, folds, labels and stored rows.
+#![tactic(auto)]
+
+#[cfg(test)]
+mod encoded;
+#[cfg(test)]
+mod folds;
+#[cfg(test)]
+mod label_books;
+#[cfg(test)]
+mod merges;
+#[cfg(test)]
+mod outside;
+#[cfg(test)]
+mod plain_folds;
+#[cfg(test)]
+mod shapes;
+#[cfg(test)]
+mod stored;
+#[cfg(test)]
+mod values;

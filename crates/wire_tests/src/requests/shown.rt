@@ -1,0 +1,91 @@
+// A request as it is sent, and what it asks for as a line of text.
+use load_requests::{Request, read_request};
+use dl_outside::MemorySource;
+use dl_values::{ColType, Name, NoMemory};
+use http_wire::HttpReader;
+use sql_text::PlainDef;
+use std::alloc::Global;
+use std::test::Fail;
+
+fn add(line: &mut Vec<u8>, texts: &[&[u8]]) -> Result<(), NoMemory> {
+    for text in texts {
+        line.extend_from_slice(text)?;
+    }
+    Ok(())
+}
+
+fn add_names(line: &mut Vec<u8>, names: &[Name]) -> Result<(), NoMemory> {
+    for name in names {
+        add(line, &[b" ", name.bytes()])?;
+    }
+    Ok(())
+}
+
+fn add_table(line: &mut Vec<u8>, def: &PlainDef) -> Result<(), NoMemory> {
+    for column in def.columns.as_slice() {
+        let kind: &[u8] = match column.kind {
+            ColType::Int => b" INT",
+            ColType::BigInt => b" BIGINT",
+            _ => b" ?",
+        };
+        add(line, &[b" ", column.name.bytes(), kind])?;
+    }
+    add(line, &[b" key"])?;
+    if let Some(key) = &def.key {
+        add_names(line, key.names.as_slice())?;
+    }
+    add(line, &[b" hash"])?;
+    add_names(line, def.hash.as_slice())
+}
+
+fn add_load(line: &mut Vec<u8>, label: &Option<Name>, separator: u8) -> Result<(), NoMemory> {
+    match label {
+        None => {}
+        Some(label) => add(line, &[b" label ", label.bytes()])?,
+    }
+    add(line, &[b" cut "])?;
+    line.push(separator)?;
+    Ok(())
+}
+
+fn add_request(line: &mut Vec<u8>, request: &Request) -> Result<(), NoMemory> {
+    match request {
+        Request::Unknown => add(line, &[b"unknown"]),
+        Request::Load {
+            db,
+            table,
+            label,
+            options,
+        } => {
+            add(line, &[b"load ", db.bytes(), b" ", table.bytes()])?;
+            add_load(line, label, options.separator)
+        }
+        Request::BadLoad { label, message } => {
+            add(line, &[b"bad load: ", message.bytes()])?;
+            match label {
+                None => Ok(()),
+                Some(label) => add(line, &[b" label ", label.bytes()]),
+            }
+        }
+        Request::CreateDb { name } => add(line, &[b"database ", name.bytes()]),
+        Request::CreateTable { db, table, def } => {
+            add(line, &[b"table ", db.bytes(), b" ", table.bytes()])?;
+            add_table(line, def)
+        }
+        Request::Select { db, table } => add(line, &[b"select ", db.bytes(), b" ", table.bytes()]),
+        Request::BadStatement { message } => add(line, &[b"bad statement: ", message.bytes()]),
+    }
+}
+
+// What a request asks for, by the bytes of its head and its body.
+pub fn asked(alloc: Global, head: &[u8], body: &[u8]) -> Result<Vec<u8>, Fail> {
+    let bytes = Vec::from_slice(alloc, head)?;
+    let mut source = MemorySource::new(bytes, 1000, Vec::new(alloc));
+    let head = HttpReader::new()
+        .next_head(alloc, &mut source)?
+        .ok_or("a head")?;
+    let request = read_request(alloc, &head, body)?;
+    let mut line = Vec::new(alloc);
+    add_request(&mut line, &request)?;
+    Ok(line)
+}
