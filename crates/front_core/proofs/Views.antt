@@ -33,9 +33,6 @@ reverse_map f (x ∷ xs) = reverse_onto (map f xs) (f x) [] ∙ ap (λ ys. ys ++
 pub seen_found : (p : Txn → Bool) (ks : List Kept) (r : Option Kept) → r ≡ find (λ k. p (seen k)) ks → option_map seen r ≡ find p (map seen ks)
 seen_found p ks r e = ap (option_map seen) e ∙ sym (find_map seen p ks)
 
-pub seen_last : (p : Txn → Bool) (ks : List Kept) (r : Option Kept) → r ≡ find (λ k. p (seen k)) (reverse ks) → option_map seen r ≡ find p (reverse (map seen ks))
-seen_last p ks r e = seen_found p (reverse ks) r e ∙ ap (find p) (sym (reverse_map seen ks))
-
 -- The load that is found waits with its own rows.
 waits_cons : (p : Kept → Bool) (u k : Kept) (us : List Kept) (b : Bool) → Each (λ (v : Kept). u.id < v.id) us → cond b (Some u) (find p us) ≡ Some k → (find p us ≡ Some k → waiting_for k.id (map waits us) ≡ folded_in k.held) → waiting_for k.id (map waits (u ∷ us)) ≡ folded_in k.held
 waits_cons p u k us true e f more = let i : u ≡ k = cc in let same : nat_eq u.id k.id ≡ true = (let j : u.id ≡ k.id = ap (λ (x : Kept). x.id) i in grind (arith, nat_tests)) in rw same (ap (λ (x : Kept). folded_in x.held) i)

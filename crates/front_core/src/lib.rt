@@ -10,8 +10,6 @@ mod fitting;
 mod front;
 mod kept;
 mod names;
-#[cfg(test)]
-mod scans;
 mod stored;
 mod table_key;
 mod transactions;
@@ -20,6 +18,3 @@ mod waiter;
 pub use front::Front;
 pub use front_defs::{Command, Reply, Turns};
 pub use front_laws::laws;
-
-#[cfg(test)]
-mod tests;

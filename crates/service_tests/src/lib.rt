@@ -4,6 +4,8 @@
 #[cfg(test)]
 mod answers;
 #[cfg(test)]
+mod fronts;
+#[cfg(test)]
 mod runs;
 #[cfg(test)]
 mod sessions;

@@ -3,9 +3,10 @@ ghost use Rattle.std.specs.Prelude.{◌≡◌, ◌<◌};
 
 mod asks;
 mod plain;
+mod scans;
 mod texts;
 
-use crate::Front;
+use front_core::Front;
 use asks::{Ask, command};
 use dl_outside::Steps;
 use dl_values::NoMemory;

@@ -1,9 +1,9 @@
 // The loads of one table as a plain list, which each command goes through.
 use super::asks::{Ask, name};
 use super::texts::state_text;
-use crate::kept::Kept;
-use crate::scans;
-use dl_values::{Name, NoMemory};
+use super::scans;
+use dl_values::{Name, NoMemory, Rows};
+use front_defs::Txn;
 use labels::TxnState;
 use std::alloc::Global;
 
@@ -70,7 +70,7 @@ impl Told {
 #[derive(Drop)]
 pub struct Plain {
     alloc: Global,
-    kept: Vec<Kept>,
+    kept: Vec<Txn>,
     rows: Vec<(u64, i64)>,
     places: u64,
     lists: u64,
@@ -140,7 +140,7 @@ impl Plain {
             return Ok(used);
         }
         let id = self.loads().saturating_add(1);
-        let kept = Kept {
+        let kept = Txn {
             id,
             db,
             table: 1,
@@ -151,13 +151,13 @@ impl Plain {
             schema: 0,
             place: None,
             told: false,
-            held: None,
+            rows: Rows::new(self.alloc),
         };
         self.kept.push(kept)?;
         Ok(Told::Begun(id))
     }
 
-    fn load(&self, id: u64) -> Option<&Kept> {
+    fn load(&self, id: u64) -> Option<&Txn> {
         self.kept.iter().find(|k| k.id == id)
     }
 

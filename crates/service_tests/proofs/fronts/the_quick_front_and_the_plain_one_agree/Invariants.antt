@@ -1,4 +1,4 @@
-use Rattle.front_core.proofs.tests.an_aborted_load_gives_its_label_back.Given as goal
+use Rattle.service_tests.proofs.fronts.the_quick_front_and_the_plain_one_agree.Given as goal
 
 abbrev pub ghosts-replies : goal.ghosts-replies
 ghosts-replies g a = record { name = a.blank.name; parts = a.blank.parts }
