@@ -1,6 +1,6 @@
 // Runs of `run`: requests and their responses, byte for byte.
-use service::Exit;
 use super::runs::answer;
+use service::Exit;
 use std::marker::Brand;
 use std::sync::ledger::Blank;
 use std::test::Fail;

@@ -6,10 +6,10 @@ mod plain;
 mod scans;
 mod texts;
 
-use front_core::Front;
 use asks::{Ask, command};
 use dl_outside::Steps;
 use dl_values::NoMemory;
+use front_core::Front;
 use plain::mixed;
 use std::alloc::Global;
 use std::marker::Brand;

@@ -1,9 +1,9 @@
 // Runs of `dryrun`: words and a body, and how they end.
 ghost use Rattle.std.specs.Prelude.{◌≡◌, ◌<◌};
 
-use service::{Exit, run};
 use dl_outside::{ListClock, MemorySink, MemorySource, Steps};
 use dl_values::NoMemory;
+use service::{Exit, run};
 use std::alloc::Global;
 use std::marker::Brand;
 use std::sync::ledger::{Blank, Ledger};

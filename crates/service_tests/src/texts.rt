@@ -1,9 +1,9 @@
 // The texts as tables, written by hand.
-use reply_texts::{job_text, refusal_text, state_text, type_text};
 use dl_values::{ColType, Name};
 use front_defs::Reply;
 use labels::TxnState;
 use partitions::LayoutError;
+use reply_texts::{job_text, refusal_text, state_text, type_text};
 use schema_models::ShapeError;
 use std::test::Fail;
 use table_defs::DefError;

@@ -1,8 +1,8 @@
 // Tables of types, roles and models of `dryrun`.
 ghost use Rattle.std.specs.Prelude.{◌≡◌, ◌<◌};
 
-use service::Exit;
 use super::runs::answer;
+use service::Exit;
 use std::marker::Brand;
 use std::sync::ledger::Blank;
 use std::test::Fail;

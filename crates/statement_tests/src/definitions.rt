@@ -1,11 +1,11 @@
 // Definitions as a table: the text of each, and what it gives as another.
-use table_defs::{DefError, define, part_of};
 use dl_values::{Cell, ColType};
 use partitions::{Bounds, Layout, LayoutError};
 use schema_models::{Model, Shape, ShapeError};
 use sql_text::{Stmt, parse_stmt};
 use std::alloc::Global;
 use std::test::Fail;
+use table_defs::{DefError, define, part_of};
 
 const DEFINITIONS: &[(&str, &str)] = &[
     (

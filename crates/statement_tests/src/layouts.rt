@@ -1,6 +1,6 @@
 // Layouts of a table of sales: what is refused, and where rows are.
-use partitions::{Bounds, Layout, LayoutError, PartDef, PartsDef};
 use dl_values::{Cell, ColType, Name, NoMemory, Row, Text};
+use partitions::{Bounds, Layout, LayoutError, PartDef, PartsDef};
 use schema_models::{ColumnDef, Model, Role, Shape};
 use sqlite_items::Items;
 use std::alloc::Global;
@@ -18,37 +18,27 @@ type Case = (
     &'static str,
 );
 
-// Of `k INT KEY, c VARCHAR KEY, v BIGINT`.
+// Of `k INT KEY, c VARCHAR KEY, v BIGINT`: what is taken, and each refusal alone.
 const CASES: &[Case] = &[
     ("k", &[("p1", 0, 10), ("p2", 10, 20)], "k", 1, "Ok"),
     ("k", &[("p1", 0, 10), ("p2", 0, 20)], "c", 64, "Ok"),
     ("k", &[("p1", 0, 0)], "k", 4, "Ok"),
     ("k", &[], "k", 4, "Ok"),
-    ("x", &[("p1", 0, 10)], "v", 0, "NoColumn x"),
-    ("k", &[("p1", 0, 10)], "x", 0, "NoColumn x"),
-    ("v", &[("p1", 0, 10)], "k", 0, "NotAKey v"),
-    ("c", &[("p1", 0, 10)], "k", 0, "NotAKey c"),
-    ("k", &[("p1", 0, 10)], "v", 0, "NotAKey v"),
-    ("k", &[("p 1", 9, 5)], "k", 0, "BadBuckets"),
+    ("x", &[("p1", 0, 10)], "k", 1, "NoColumn x"),
+    ("k", &[("p1", 0, 10)], "x", 1, "NoColumn x"),
+    ("v", &[("p1", 0, 10)], "k", 1, "NotAKey v"),
+    ("c", &[("p1", 0, 10)], "k", 1, "NotAKey c"),
+    ("k", &[("p1", 0, 10)], "v", 1, "NotAKey v"),
+    ("k", &[("p1", 0, 10)], "k", 0, "BadBuckets"),
     ("k", &[("p1", 0, 10)], "k", 65, "BadBuckets"),
-    ("k", &[("p 1", 0, 10), ("p2", 9, 9)], "k", 1, "BadBound p2"),
+    ("k", &[("p1", 9, 9)], "k", 1, "BadBound p1"),
+    ("k", &[("p1", NULL, 9)], "k", 1, "BadBound p1"),
+    ("k", &[("p1", 0, NULL)], "k", 1, "BadBound p1"),
+    ("k", &[("p1", 0, 3_000_000_000)], "k", 1, "BadBound p1"),
+    ("k", &[("p1", 0, 10), ("", 10, 20)], "k", 1, "BadName "),
     (
         "k",
-        &[("p1", 0, 3_000_000_000), ("p1", 5, 5)],
-        "k",
-        1,
-        "BadBound p1",
-    ),
-    (
-        "k",
-        &[("p1", 0, 10), ("p1", 0, 20), ("", 5, 6)],
-        "k",
-        1,
-        "BadName ",
-    ),
-    (
-        "k",
-        &[("p1", 0, 10), ("p2", 5, 20), ("p1", 20, 30)],
+        &[("p1", 0, 10), ("p1", 20, 30)],
         "k",
         1,
         "DoubleName p1",
@@ -64,11 +54,64 @@ const CASES: &[Case] = &[
     ("k", &[("p1", 0, 20), ("p2", 0, 10)], "k", 1, "Overlap p2"),
 ];
 
+// Each refusal with each that comes after it, which often stands before it in the text.
+const PAIRS: &[Case] = &[
+    ("v", &[("p1", 0, 10)], "x", 1, "NoColumn x"),
+    ("x", &[("p1", 0, 10)], "v", 1, "NoColumn x"),
+    ("k", &[("p1", 0, 10)], "x", 0, "NoColumn x"),
+    ("k", &[("p1", 9, 5)], "x", 1, "NoColumn x"),
+    ("k", &[("p 1", 0, 10)], "x", 1, "NoColumn x"),
+    ("k", &[("p1", 1, 2), ("p1", 3, 4)], "x", 1, "NoColumn x"),
+    ("k", &[("p1", 1, 3), ("p2", 2, 4)], "x", 1, "NoColumn x"),
+    ("k", &[("p1", 0, 10)], "v", 0, "NotAKey v"),
+    ("k", &[("p1", 9, 5)], "v", 1, "NotAKey v"),
+    ("k", &[("p 1", 0, 10)], "v", 1, "NotAKey v"),
+    ("k", &[("p1", 1, 2), ("p1", 3, 4)], "v", 1, "NotAKey v"),
+    ("k", &[("p1", 1, 3), ("p2", 2, 4)], "v", 1, "NotAKey v"),
+    ("k", &[("p1", 9, 5)], "k", 0, "BadBuckets"),
+    ("k", &[("p 1", 0, 10)], "k", 0, "BadBuckets"),
+    ("k", &[("p1", 1, 2), ("p1", 3, 4)], "k", 65, "BadBuckets"),
+    ("k", &[("p1", 1, 3), ("p2", 2, 4)], "k", 65, "BadBuckets"),
+    ("k", &[("p 1", 0, 10), ("p2", 19, 9)], "k", 1, "BadBound p2"),
+    ("k", &[("p1", 0, 3), ("p1", 5, 5)], "k", 1, "BadBound p1"),
+    (
+        "k",
+        &[("p1", 1, 9), ("p2", 2, 8), ("p3", 9, 1)],
+        "k",
+        1,
+        "BadBound p3",
+    ),
+    (
+        "k",
+        &[("p1", 0, 10), ("p1", 0, 20), ("", 30, 40)],
+        "k",
+        1,
+        "BadName ",
+    ),
+    (
+        "k",
+        &[("p1", 1, 9), ("p2", 2, 8), ("", 30, 40)],
+        "k",
+        1,
+        "BadName ",
+    ),
+    (
+        "k",
+        &[("p1", 0, 10), ("p2", 5, 20), ("p1", 20, 30)],
+        "k",
+        1,
+        "DoubleName p1",
+    ),
+];
+
+// An end that is a null cell.
+const NULL: i64 = i64::MIN;
+
 fn end(value: i64) -> Option<Cell> {
-    if value == 0 {
-        None
-    } else {
-        Some(Cell::Int(value))
+    match value {
+        0 => None,
+        NULL => Some(Cell::Null),
+        value => Some(Cell::Int(value)),
     }
 }
 
@@ -155,13 +198,113 @@ fn cases() -> &'static [Case] {
     CASES
 }
 
+fn pairs() -> &'static [Case] {
+    PAIRS
+}
+
 #[test]
 fn the_first_refusal_is_told(rt: HostRuntime) -> Result<(), Fail> {
     let alloc = rt.alloc();
-    for one in cases() {
+    for one in cases().iter().chain(pairs()) {
         let told = case(alloc, one)?.expect(&rt, "the columns are a shape");
         assert_eq!(rt; told.bytes(), one.4.as_bytes());
     }
+    Ok(())
+}
+
+// So many partitions, each of one number; the last one begins so far before its place.
+fn many(alloc: Global, count: i64, back: i64) -> Result<Items<PartDef>, NoMemory> {
+    let mut all = Items::new(alloc);
+    for place in 1..count + 1 {
+        let name = format!(in alloc; "p{place}")?;
+        let low = if place == count { place - back } else { place };
+        let bounds = Bounds::Between(Some(Cell::Int(low)), Some(Cell::Int(place + 1)));
+        all.push(PartDef {
+            name: Name::new(alloc, name.as_bytes())?,
+            bounds,
+        })?;
+    }
+    Ok(all)
+}
+
+// How many partitions, how far the last one begins before its place, how many buckets, and what that is refused as.
+const COUNTS: &[(i64, i64, u32, &str)] = &[
+    (1000, 0, 1, "Ok"),
+    (1001, 0, 1, "TooManyPartitions"),
+    (1001, 1, 1, "Overlap p1001"),
+    (1001, 0, 0, "BadBuckets"),
+];
+
+fn counts() -> &'static [(i64, i64, u32, &'static str)] {
+    COUNTS
+}
+
+// A layout by `k` of so many partitions.
+fn layout_of(
+    alloc: Global,
+    shape: &Shape,
+    count: i64,
+    back: i64,
+    buckets: u32,
+) -> Result<Layout, LayoutError> {
+    let def = PartsDef::ByRange(Name::new(alloc, b"k")?, many(alloc, count, back)?);
+    Layout::build(alloc, shape, def, names(alloc, "k")?, buckets)
+}
+
+#[test]
+fn a_layout_has_a_thousand_partitions_and_no_more(rt: HostRuntime) -> Result<(), Fail> {
+    let alloc = rt.alloc();
+    let shape = shape(alloc, Model::Unique)?.expect(&rt, "the columns are a shape");
+    for (count, back, buckets, wanted) in counts() {
+        let built = match layout_of(alloc, &shape, *count, *back, *buckets) {
+            Ok(_) => Ok(()),
+            Err(fault) => Err(fault),
+        };
+        assert_eq!(rt; told(alloc, &built)?.bytes(), wanted.as_bytes());
+    }
+    let mut layout = layout_of(alloc, &shape, 1000, 0, 1)?;
+    let added = told(
+        alloc,
+        &layout.add(alloc, part(alloc, &("last", 2000, 2001))?),
+    )?;
+    assert_eq!(rt; added.bytes(), b"TooManyPartitions".as_slice());
+    assert_eq!(rt; layout.parts().len(), 1000);
+    Ok(())
+}
+
+// A layout of `day DATE KEY, v BIGINT` with one partition below this end.
+fn by_day(alloc: Global, high: Cell) -> Result<Option<Result<Layout, LayoutError>>, NoMemory> {
+    let mut columns = Vec::new(alloc);
+    columns.push(column(alloc, "day", ColType::Date, Role::Key)?)?;
+    columns.push(column(alloc, "v", ColType::BigInt, Role::Plain)?)?;
+    let Ok(shape) = Shape::build(Model::Unique, columns) else {
+        return Ok(None);
+    };
+    let mut parts = Items::new(alloc);
+    let name = Name::new(alloc, b"p1")?;
+    parts.push(PartDef {
+        name,
+        bounds: Bounds::Less(Some(high)),
+    })?;
+    let def = PartsDef::ByRange(Name::new(alloc, b"day")?, parts);
+    Ok(Some(Layout::build(alloc, &shape, def, names(alloc, "day")?, 1)))
+}
+
+#[test]
+fn partitions_by_day_end_at_days(rt: HostRuntime) -> Result<(), Fail> {
+    let alloc = rt.alloc();
+    let layout = by_day(alloc, Cell::Day(20240201))?.expect(&rt, "the columns are a shape")?;
+    for (day, wanted) in [(20240131, Some((0, 0))), (20240201, None)] {
+        let mut row = Row::new(alloc);
+        row.push(Cell::Day(day))?;
+        row.push(Cell::Int(4))?;
+        assert_eq!(rt; layout.place(&row), wanted);
+    }
+    let refused = match by_day(alloc, Cell::Int(20240201))?.expect(&rt, "the columns are a shape") {
+        Ok(_) => Ok(()),
+        Err(fault) => Err(fault),
+    };
+    assert_eq!(rt; told(alloc, &refused)?.bytes(), b"BadBound p1".as_slice());
     Ok(())
 }
 

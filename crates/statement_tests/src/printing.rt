@@ -1,8 +1,8 @@
 // Tokens as a table: their text, which is read again as the same tokens.
 mod statements;
 
-use sql_print::print_tokens;
 use dl_values::{Name, NoMemory, Text};
+use sql_print::print_tokens;
 use sql_tokens::{Sign, TokenKind, tokens};
 use std::alloc::Global;
 use std::test::Fail;

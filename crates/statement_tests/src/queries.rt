@@ -1,7 +1,7 @@
 // Queries over a few rows as tables: the text of each, and its answer as a text.
-use select_defs::{SelectError, eval};
 use dl_values::{AggKind, Cell, ColType, Name, NoMemory, ResultSet, Row, Rows, Text, write_cell};
 use schema_models::{ColumnDef, Model, Role, Shape};
+use select_defs::{SelectError, eval};
 use sql_text::{Query, Stmt, parse_stmt};
 use std::alloc::Global;
 use std::process::Abort;

@@ -1,7 +1,7 @@
 // Texts as a table: the tokens of each, written in a line.
-use sql_tokens::{Sign, TokenKind, tokens};
 use dl_values::NoMemory;
 use itoa::Buffer;
+use sql_tokens::{Sign, TokenKind, tokens};
 use std::alloc::Global;
 use std::test::Fail;
 

@@ -1,6 +1,6 @@
 // Rows that are encoded are told as they were.
-use journal_format::EncodedRows;
 use dl_values::{Cell, Row, Rows};
+use journal_format::EncodedRows;
 use std::test::Fail;
 
 #[test]

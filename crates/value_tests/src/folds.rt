@@ -1,11 +1,11 @@
 // Tables of folds, beside the plain fold.
 ghost use Rattle.std.specs.Prelude.{◌≡◌, ◌<◌};
 
-use row_fold::{SortedRows, fold as fold_list, fold_rows, fold_rows_of, fold_sorted};
 use dl_outside::Steps;
 use dl_values::{
     AggKind, Cell, ColType, Name, NoMemory, Row, Rows, Text, compare_slices, write_cell,
 };
+use row_fold::{SortedRows, fold as fold_list, fold_rows, fold_rows_of, fold_sorted};
 use schema_models::{ColumnDef, Model, Role, Shape, fold};
 use std::alloc::Global;
 use std::cmp::Ordering;

@@ -1,6 +1,6 @@
 // A book of labels.
-use labels::{BindError, LabelBook, TxnState};
 use dl_values::Name;
+use labels::{BindError, LabelBook, TxnState};
 use std::test::Fail;
 
 #[test]

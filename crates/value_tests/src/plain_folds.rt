@@ -1,6 +1,6 @@
 // Tables of folds.
-use schema_models::{ColumnDef, Model, Role, Shape, fold, is_of_shape, laws};
 use dl_values::{AggKind, Cell, ColType, Name, NoMemory, Row, Rows, compare_slices};
+use schema_models::{ColumnDef, Model, Role, Shape, fold, is_of_shape, laws};
 use std::alloc::Global;
 use std::cmp::Ordering;
 use std::test::Fail;

@@ -1,6 +1,6 @@
 // Tables of shapes and of folds.
-use schema_models::{ColumnDef, Model, Role, Shape, ShapeError, is_name};
 use dl_values::{AggKind, Cell, ColType, Name, NoMemory};
+use schema_models::{ColumnDef, Model, Role, Shape, ShapeError, is_name};
 use std::alloc::Global;
 use std::test::Fail;
 

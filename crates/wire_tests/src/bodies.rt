@@ -1,5 +1,5 @@
 // Tables of options and of bodies.
-use csv_load::{BodyFault, Inside, MAX_RECORDS, Options, OptionError, Parsed, fails, read_body};
+use csv_load::{BodyFault, Inside, MAX_RECORDS, OptionError, Options, Parsed, fails, read_body};
 use dl_values::{ColType, Name, NoMemory, Row, Rows, write_cell};
 use schema_models::{ColumnDef, Model, Role, Shape};
 use std::alloc::Global;

@@ -1,7 +1,7 @@
 // The loads of one table as a plain list, which each command goes through.
 use super::asks::{Ask, name};
-use super::texts::state_text;
 use super::scans;
+use super::texts::state_text;
 use dl_values::{Name, NoMemory, Rows};
 use front_defs::Txn;
 use labels::TxnState;

@@ -23,16 +23,14 @@ fn place(txn: &Txn) -> u64
 fn has_lower(kept: &[Txn], place_of_other: u64) -> bool
     ensures { result ≡ defs.has_lower kept.now place_of_other }
 {
-    kept.iter()
-        .any(|k| k.state == TxnState::Committed && place(k) < place_of_other)
+    kept.iter().any(|k| k.state == TxnState::Committed && place(k) < place_of_other)
 }
 
 // The committed load of the lowest place.
 pub fn due(kept: &[Txn]) -> Option<&Txn>
     ensures { option_copied result ≡ defs.due kept.now }
 {
-    kept.iter()
-        .find(|k| k.state == TxnState::Committed && !has_lower(kept, place(k)))
+    kept.iter().find(|k| k.state == TxnState::Committed && !has_lower(kept, place(k)))
 }
 
 // How many committed loads have a lower place.

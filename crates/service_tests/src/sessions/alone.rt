@@ -2,9 +2,9 @@
 ghost use Rattle.std.specs.Prelude.{◌≡◌, ◌<◌};
 
 use super::texts::{CONTINUE, CREATE, CREATE_TABLE, DONE, LOAD, LOADED, ROWS, SELECT, USED};
-use load_server::{SessionEnd, Solo, session};
 use dl_outside::{ListClock, MemorySink, MemorySource, Steps};
 use dl_values::NoMemory;
+use load_server::{SessionEnd, Solo, session};
 use std::alloc::Global;
 use std::marker::Brand;
 use std::sync::ledger::{Blank, Ledger};

@@ -3,12 +3,12 @@ ghost use Rattle.std.specs.Prelude.{◌≡◌, ◌<◌, IfOk, IfSome, false};
 ghost use Rattle.front_defs.specs.Gives.{Gives};
 ghost use Rattle.rowsets.specs.RowsetView.{IsListOf};
 
-use load_server::{SessionEnd, session};
 use columnar::are_of_shape;
 use dl_outside::{ListClock, MemorySink, MemorySource, Steps};
 use dl_values::{Cell, ColType, Name, NoMemory, Row, Rows};
 use front_defs::{Command, Placed, Reply, Turns};
 use labels::TxnState;
+use load_server::{SessionEnd, session};
 use merge_read::Snapshot;
 use partitions::Layout;
 use rowsets::Rowset;

@@ -1,8 +1,8 @@
 // Sessions with exact bytes.
 use super::replies::{Told, ran};
 use super::texts::*;
-use load_server::SessionEnd;
 use dl_values::NoMemory;
+use load_server::SessionEnd;
 use std::alloc::Global;
 use std::test::Fail;
 

@@ -1,6 +1,6 @@
 // Statements as tables: the text of each, and its text again.
-use sql_print::print_stmt;
 use dl_values::NoMemory;
+use sql_print::print_stmt;
 use sql_text::{SqlError, parse_stmt};
 use std::alloc::Global;
 use std::test::Fail;

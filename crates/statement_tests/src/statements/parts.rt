@@ -1,11 +1,11 @@
 // What a statement holds, part by part.
+use dl_values::{AggKind, Name};
+use schema_models::Model;
 use sql_text::{
     AdminTask, AggFn, AlterKind, Check, Clause, ColumnPlace, ColumnType, CompareOp, DefaultText,
     Filter, Item, Literal, OrderBy, OrderKey, PartBounds, Query, Stmt, TableDef, TransactionKey,
     parse_stmt,
 };
-use dl_values::{AggKind, Name};
-use schema_models::Model;
 use std::alloc::Global;
 use std::test::Fail;
 

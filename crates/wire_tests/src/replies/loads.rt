@@ -1,6 +1,6 @@
 // The bodies that answer loads.
-use reply_json::{LoadReport, render_load};
 use dl_values::{NoMemory, Text};
+use reply_json::{LoadReport, render_load};
 use std::alloc::Global;
 use std::test::Fail;
 

@@ -1,6 +1,6 @@
 // The bodies that answer statements which were taken.
-use reply_json::{render_done, render_result};
 use dl_values::{Cell, NoMemory, ResultSet, Row, Rows, Text};
+use reply_json::{render_done, render_result};
 use std::alloc::Global;
 use std::test::Fail;
 

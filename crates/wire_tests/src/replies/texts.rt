@@ -1,6 +1,6 @@
 // Refusals, and how texts are escaped: the table of RFC 8259, section 7, in the short forms.
-use reply_json::{render_error, render_refusal, render_refused};
 use dl_values::Text;
+use reply_json::{render_error, render_refusal, render_refused};
 use std::test::Fail;
 
 #[test]

@@ -1,8 +1,8 @@
 // A request as it is sent, and what it asks for as a line of text.
-use load_requests::{Request, read_request};
 use dl_outside::MemorySource;
 use dl_values::{ColType, Name, NoMemory};
 use http_wire::HttpReader;
+use load_requests::{Request, read_request};
 use sql_text::PlainDef;
 use std::alloc::Global;
 use std::test::Fail;

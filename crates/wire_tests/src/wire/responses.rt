@@ -1,6 +1,6 @@
 // The bytes of responses, and writes that fail.
-use http_wire::{write_continue, write_response};
 use dl_outside::{Failed, MemorySink};
+use http_wire::{write_continue, write_response};
 use std::alloc::{AllocError, Global};
 use std::process::Abort;
 use std::test::Fail;

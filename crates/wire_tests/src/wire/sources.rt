@@ -1,6 +1,6 @@
 // Sources for the tests, and reading all requests of one.
-use http_wire::{HttpReader, WireError};
 use dl_outside::{MemorySource, Source};
+use http_wire::{HttpReader, WireError};
 use std::alloc::{AllocError, Global};
 
 /// What curl 7.88.1 sent for `curl -u root: -H label:load-1 -H Expect:100-continue -T rows.tsv URL`, captured as bytes.
