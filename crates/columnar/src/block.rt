@@ -85,3 +85,6 @@ impl Block {
         RowView::across(self.cells.as_slice(), self.count, at)
     }
 }
+
+#[cfg(test)]
+pub mod tests;

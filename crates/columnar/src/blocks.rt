@@ -98,3 +98,6 @@ impl Blocks {
         self.marks.is_of(shape)
     }
 }
+
+#[cfg(test)]
+mod tests;

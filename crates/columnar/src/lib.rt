@@ -9,3 +9,6 @@ mod row_test;
 pub use blocks::Blocks;
 pub use marks::{ColumnMark, Marks};
 pub use row_test::are_of_shape;
+
+#[cfg(test)]
+mod tests;

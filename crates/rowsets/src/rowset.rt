@@ -68,3 +68,6 @@ impl SortedRows for Rowset {
         self.blocks.row(place, steps)
     }
 }
+
+#[cfg(test)]
+mod tests;

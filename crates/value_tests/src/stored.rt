@@ -3,7 +3,7 @@ ghost use Rattle.std.specs.Prelude.{◌≡◌, ◌<◌};
 
 use columnar::are_of_shape;
 use dl_outside::Steps;
-use dl_values::{AggKind, Cell, ColType, Name, NoMemory, Row, Rows, write_cell};
+use dl_values::{AggKind, Cell, ColType, Name, NoMemory, Row, RowView, Rows, write_cell};
 use row_fold::SortedRows;
 use rowsets::Rowset;
 use schema_models::{ColumnDef, Model, Role, Shape};
@@ -15,14 +15,14 @@ use std::test::Fail;
 
 // What the two columns of a shape have.
 #[derive(Clone, Copy)]
-struct Kinds {
+pub struct Kinds {
     model: Model,
     key: ColType,
     value: Role,
     nullable: bool,
 }
 
-const SUMS: Kinds = Kinds {
+pub const SUMS: Kinds = Kinds {
     model: Model::Aggregate,
     key: ColType::Int,
     value: Role::Agg(AggKind::Sum),
@@ -63,7 +63,11 @@ fn rows(alloc: Global, of: &[(i64, i64)]) -> Result<Rows, NoMemory> {
     Ok(rows)
 }
 
-fn built(alloc: Global, kinds: Kinds, of: &[(i64, i64)]) -> Result<Option<Arc<Rowset>>, NoMemory> {
+pub fn built(
+    alloc: Global,
+    kinds: Kinds,
+    of: &[(i64, i64)],
+) -> Result<Option<Arc<Rowset>>, NoMemory> {
     let Some(shape) = shape(alloc, kinds)? else {
         return Ok(None);
     };
@@ -99,6 +103,58 @@ fn a_rowset_has_the_fold_of_its_rows(rt: HostRuntime) -> Result<(), Fail> {
     let rowset = built(alloc, SUMS, &[(2, 1), (1, 5), (2, 7)])?.ok_or("no rowset")?;
     let text = told::<Brand>(alloc, &rowset, Blank::new(1))?;
     assert_eq!(rt; text.as_slice(), b"1;5;2;8;".as_slice());
+    Ok(())
+}
+
+// Whether a row has this key and this value.
+fn has_cells(row: &RowView, key: i64, value: i64) -> bool {
+    if row.len() != 2 {
+        return false;
+    }
+    match (row.cell(0), row.cell(1)) {
+        (Cell::Int(first), Cell::Int(second)) => *first == key && *second == value,
+        _ => false,
+    }
+}
+
+// Whether the rows have the keys from 0 up to a count, each with the number below it.
+fn are_numbered<L: Ledger>(rowset: &Arc<Rowset>, count: u32, blank: Blank) -> bool
+    requires name { blank.name ≡ L.name }
+    requires parts { blank.parts ≡ L.parts }
+    requires some { 0 < L.parts }
+{
+    let mut steps: Steps<L> = Steps::new(blank);
+    if rowset.len() != count as usize {
+        return false;
+    }
+    for place in 0..count {
+        let key = i64::from(place);
+        if !has_cells(&rowset.row(place as usize, &mut steps), key, key - 1) {
+            return false;
+        }
+    }
+    true
+}
+
+// Whether a rowset of so many rows, which are given from the greatest key down, has them all.
+fn is_whole(alloc: Global, count: u32) -> Result<bool, NoMemory> {
+    let mut given = Vec::new(alloc);
+    for place in 0..count {
+        let key = i64::from(count - 1 - place);
+        given.push((key, key - 1))?;
+    }
+    match built(alloc, SUMS, given.as_slice())? {
+        Some(rowset) => Ok(are_numbered::<Brand>(&rowset, count, Blank::new(1))),
+        None => Ok(false),
+    }
+}
+
+#[test]
+fn a_rowset_of_several_blocks_has_all_its_rows(rt: HostRuntime) -> Result<(), Fail> {
+    for count in [0, 1, 1023, 1024, 1025, 2049] {
+        let whole = is_whole(rt.alloc(), count)?;
+        assert!(rt; whole, "of {count} rows");
+    }
     Ok(())
 }
 
