@@ -18,6 +18,3 @@ pub use merge::Merge;
 pub use merged_cell::MergedCell;
 pub use reading::read_all;
 pub use snapshot::Snapshot;
-
-#[cfg(test)]
-mod tests;

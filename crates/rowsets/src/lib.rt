@@ -4,3 +4,6 @@
 mod rowset;
 
 pub use rowset::Rowset;
+
+#[cfg(test)]
+mod tests;

@@ -1,4 +1,4 @@
-//! Tests of the outside, of values, merges, shapes, folds, labels and stored rows.
+//! Tests of the outside, of values, merges, shapes, folds, labels and readings of stored rows.
 #![tactic(auto)]
 
 #[cfg(test)]
@@ -14,8 +14,8 @@ mod outside;
 #[cfg(test)]
 mod plain_folds;
 #[cfg(test)]
-mod shapes;
+mod readings;
 #[cfg(test)]
-mod stored;
+mod shapes;
 #[cfg(test)]
 mod values;

@@ -1,11 +1,11 @@
 // A rowset has the fold of the rows that it was built of, and knows the marks of its shape.
 ghost use Rattle.std.specs.Prelude.{◌≡◌, ◌<◌};
 
+use crate::Rowset;
 use columnar::are_of_shape;
 use dl_outside::Steps;
 use dl_values::{AggKind, Cell, ColType, Name, NoMemory, Row, RowView, Rows, write_cell};
 use row_fold::SortedRows;
-use rowsets::Rowset;
 use schema_models::{ColumnDef, Model, Role, Shape};
 use std::alloc::Global;
 use std::marker::Brand;

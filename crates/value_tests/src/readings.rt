@@ -6,10 +6,10 @@ mod counted;
 mod sorted;
 mod tables;
 
-use crate::{Merge, MergedCell, read_all};
 use counted::{Counted, all_looks};
 use dl_outside::Steps;
 use dl_values::{Cell, ColType, Name, NoMemory, Row, Rows, Text, write_cell};
+use merge_read::{Merge, MergedCell, read_all};
 use schema_models::{ColumnDef, Role, Shape};
 use sorted::are_lists;
 use std::alloc::Global;
