@@ -214,14 +214,21 @@ fn the_first_refusal_is_told(rt: HostRuntime) -> Result<(), Fail> {
 
 // So many partitions, each of one number; the last one begins so far before its place.
 fn many(alloc: Global, count: i64, back: i64) -> Result<Items<PartDef>, NoMemory> {
+    let last = count.saturating_sub(1);
     let mut all = Items::new(alloc);
-    for place in 1..count + 1 {
+    for place in 0..count {
         let name = format!(in alloc; "p{place}")?;
-        let low = if place == count { place - back } else { place };
-        let bounds = Bounds::Between(Some(Cell::Int(low)), Some(Cell::Int(place + 1)));
+        let low = if place == last {
+            place.saturating_sub(back)
+        } else {
+            place
+        };
         all.push(PartDef {
             name: Name::new(alloc, name.as_bytes())?,
-            bounds,
+            bounds: Bounds::Between(
+                Some(Cell::Int(low)),
+                Some(Cell::Int(place.saturating_add(1))),
+            ),
         })?;
     }
     Ok(all)
@@ -231,7 +238,7 @@ fn many(alloc: Global, count: i64, back: i64) -> Result<Items<PartDef>, NoMemory
 const COUNTS: &[(i64, i64, u32, &str)] = &[
     (1000, 0, 1, "Ok"),
     (1001, 0, 1, "TooManyPartitions"),
-    (1001, 1, 1, "Overlap p1001"),
+    (1001, 1, 1, "Overlap p1000"),
     (1001, 0, 0, "BadBuckets"),
 ];
 
