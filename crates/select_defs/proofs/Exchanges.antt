@@ -1,9 +1,8 @@
 -- A query answers the same where neighbouring rows change places.
-use Rattle.std.proofs.Common.{◌≡◌, ℕ, ◌+◌, Bool, true, false, cond, List, [], ◌∷◌, ◌++◌, length, map, Option, Some, None, Result, refl, sym, ap, ap₂, ◌∙◌, subst, filter, fold, length-append, ◌⊎◌, inl, inr}
+use Rattle.std.proofs.Common.{◌≡◌, ℕ, Bool, true, false, cond, List, [], ◌∷◌, ◌++◌, length, map, refl, sym, ap, ap₂, ◌∙◌, subst, filter, fold, length-append, ◌⊎◌, inl, inr}
 use Rattle.std.proofs.lemmas.List.{map-append}
 use Rattle.std.proofs.lemmas.List.Elements.{filter-append}
 use Rattle.std.proofs.lemmas.List.Sums.{fold-append}
-use Rattle.std.specs.Cmp.{IsTotalOrder}
 use Rattle.std.specs.FinMap.{IsAntisymmetric}
 use Rattle.std.specs.Ordering.{is_eq}
 use Rattle.std.specs.declared.cmp.Ordering.{Ordering}
@@ -29,11 +28,11 @@ use Rattle.sql_text.specs.declared.query.OrderKey.{OrderKey}
 use Rattle.sql_text.specs.declared.query.Query.{Query}
 use Rattle.select_defs.specs.Aggregates.{aggregate, count_cell, not_null}
 use Rattle.select_defs.specs.Columns.{cell_named}
-use Rattle.select_defs.specs.Eval.{Answer, Eval, answer, unless}
+use Rattle.select_defs.specs.Eval.{Eval, unless}
 use Rattle.select_defs.specs.Filters.{passes, selected}
 use Rattle.select_defs.specs.Groups.{group_cell, group_key, group_keys, group_row, group_rows, output_rows, plain_row, rows_of_group}
 use Rattle.select_defs.specs.Items.{items_of, output_name, output_type}
-use Rattle.select_defs.specs.Orders.{limited, order_cmp, ordered}
+use Rattle.select_defs.specs.Orders.{limited, ordered}
 use Rattle.select_defs.specs.Refusals.{is_grouped, refusal}
 use Rattle.select_defs.proofs.Neighbours.{distinct_near}
 use Rattle.select_defs.proofs.OrderLaws.{order_same, order_total}

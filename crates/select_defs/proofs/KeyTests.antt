@@ -44,17 +44,17 @@ step role.Key n cs name (x ∷ xs) rest e = ap (λ (k : ℕ). cell_under (n ∷ 
     go true h = refl
     go false h = rest xs h
 
-under_keys : (columns : List ColumnDef) (name : List ℕ) (row : List Cell) → names_key columns name ≡ true → cell_under (names_of columns) name (take (key_count columns) row) ≡ cell_under (names_of columns) name row
+pub under_keys : (columns : List ColumnDef) (name : List ℕ) (row : List Cell) → names_key columns name ≡ true → cell_under (names_of columns) name (take (key_count columns) row) ≡ cell_under (names_of columns) name row
 under_keys [] name row e = cc
 under_keys (c ∷ cs) name row e = step c.role c.name cs name row (λ xs h. under_keys cs name xs h) e
 
 -- ---- so do the tests
 
-left : (a b : Bool) → (a && b) ≡ true → a ≡ true
+pub left : (a b : Bool) → (a && b) ≡ true → a ≡ true
 left true b e = refl
 left false b e = cc
 
-right : (a b : Bool) → (a && b) ≡ true → b ≡ true
+pub right : (a b : Bool) → (a && b) ≡ true → b ≡ true
 right true b e = e
 right false b e = cc
 

@@ -1,6 +1,10 @@
 mod Evals
 mod Exchanges
+mod FoldCounts
 mod Joins
+mod KeptRows
 mod KeyTests
 mod Neighbours
 mod OrderLaws
+mod Served
+mod ServedItems

@@ -1,11 +1,12 @@
 -- Neighbouring rows may change places.
-use Rattle.std.proofs.Common.{◌≡◌, ℕ, Bool, true, false, cond, List, [], ◌∷◌, ◌++◌, length, map, refl, sym, ap, ap₂, ◌∙◌, subst, filter, fold, length-append}
+use Rattle.std.proofs.Common.{◌≡◌, List, [], ◌∷◌, ◌++◌, refl, sym, ap, ◌∙◌, subst}
 use Rattle.std.specs.BTreeSet.{insert_key}
 use Rattle.std.specs.Cmp.{IsTotalOrder}
 use Rattle.std.specs.FinMap.{IsAntisymmetric}
-use Rattle.std.specs.Ordering.{is_eq, match_ordering, ordering_reverse}
+use Rattle.std.specs.Ordering.{match_ordering, ordering_reverse}
 use Rattle.std.specs.declared.cmp.Ordering.{Ordering}
 use Rattle.std.specs.declared.cmp.Ordering.TheVariants.{Less, Equal, Greater}
+use Rattle.std.proofs.lemmas.Cmp.{tied_itself}
 use Rattle.fold_laws.specs.Fold.{distinct}
 
 module _ {K : Type 0} {cmp : K → K → Ordering} (o : IsTotalOrder cmp) (same : IsAntisymmetric cmp) where
@@ -68,3 +69,13 @@ module _ {K : Type 0} {cmp : K → K → Ordering} (o : IsTotalOrder cmp) (same 
   pub distinct_near : {R : Type 0} (key : R → K) (front back : List R) (a b : R) → distinct cmp key (front ++ a ∷ b ∷ back) ≡ distinct cmp key (front ++ b ∷ a ∷ back)
   distinct_near key [] back a b = changes (distinct cmp key back) (key b) (key a)
   distinct_near key (r ∷ front) back a b = ap (λ l. into l (key r)) (distinct_near key front back a b)
+
+  -- a key once more changes nothing
+  pub twice : (ks : List K) (k : K) → into (into ks k) k ≡ into ks k
+  twice [] k = at k k [] (tied_itself o k)
+  twice (x ∷ xs) k = go (twice xs k) (cmp k x) refl
+    where
+      go : into (into xs k) k ≡ into xs k → (c : Ordering) → cmp k x ≡ c → into (into (x ∷ xs) k) k ≡ into (x ∷ xs) k
+      go rest Less e = ap (λ l. into l k) (below k x xs e) ∙ at k k (x ∷ xs) (tied_itself o k) ∙ sym (below k x xs e)
+      go rest Equal e = ap (λ l. into l k) (at k x xs e)
+      go rest Greater e = ap (λ l. into l k) (above k x xs e) ∙ above k x (into xs k) e ∙ ap (λ l. x ∷ l) rest ∙ sym (above k x xs e)

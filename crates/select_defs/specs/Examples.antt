@@ -5,6 +5,7 @@ use Rattle.dl_values.specs.declared.cell.Cell.{Cell}
 use Rattle.dl_values.specs.declared.cell.Cell.TheVariants as cell
 use Rattle.dl_values.specs.declared.col_type.ColType.{ColType}
 use Rattle.dl_values.specs.declared.col_type.ColType.TheVariants as kind
+use Rattle.schema_models.specs.Folds.{fold_of}
 use Rattle.schema_models.specs.ShapeView.{ShapeView}
 use Rattle.schema_models.specs.declared.column_def.ColumnDef.{ColumnDef}
 use Rattle.schema_models.specs.declared.model.Model.TheVariants as model
@@ -22,6 +23,7 @@ use Rattle.sql_text.specs.declared.query.OrderBy.{OrderBy}
 use Rattle.sql_text.specs.declared.query.OrderKey.{OrderKey}
 use Rattle.sql_text.specs.declared.query.Query.{Query}
 use Rattle.select_defs.specs.Eval.{Answer, Eval}
+use Rattle.select_defs.specs.Laws.{is_served_by_folds}
 use Rattle.select_defs.specs.declared.select_error.SelectError.{SelectError}
 
 -- `t (k INT, c INT, v BIGINT SUM) AGGREGATE KEY(k, c)`
@@ -53,6 +55,10 @@ null = cell.Null
 -- four rows of t: two of one k, one with a null, one with a null k
 abbrev pub rows : List (List Cell)
 rows = (int 1 ∷ int 1 ∷ int 10 ∷ []) ∷ (int 1 ∷ int 2 ∷ int 5 ∷ []) ∷ (int 2 ∷ int 1 ∷ null ∷ []) ∷ (null ∷ int 1 ∷ int 7 ∷ []) ∷ []
+
+-- three rows of t as they are loaded: two of one key
+abbrev pub loaded : List (List Cell)
+loaded = (int 1 ∷ int 1 ∷ int 10 ∷ []) ∷ (int 1 ∷ int 1 ∷ int 5 ∷ []) ∷ (int 2 ∷ int 1 ∷ int 7 ∷ []) ∷ []
 
 -- ---- queries
 
@@ -94,3 +100,11 @@ Gives s q rows answer = (a : Answer) × (Eval s s q rows ≡ Ok a) × (a.rows �
 
 abbrev pub Refuses : ShapeView → Query → SelectError → Type 0
 Refuses s q e = Eval s s q [] ≡ Err e
+
+-- a query that folds serve: what it gives over the loaded rows it gives over their fold
+abbrev pub Serves : Query → List (List Cell) → Type 0
+Serves q answer = (is_served_by_folds t t q ≡ true) × Gives t q loaded answer × Gives t q (fold_of t loaded) answer
+
+-- one that they do not serve, with what it gives over the loaded rows and over their fold
+abbrev pub Differs : Query → List (List Cell) → List (List Cell) → Type 0
+Differs q answer other = (is_served_by_folds t t q ≡ false) × Gives t q loaded answer × Gives t q (fold_of t loaded) other

@@ -6,7 +6,7 @@ ghost use Rattle.sql_text.specs.declared.query.CompareOp.TheVariants as op;
 ghost use Rattle.sql_text.specs.declared.query.Item.TheVariants as item;
 ghost use Rattle.sql_text.specs.declared.query.Literal.TheVariants as literal;
 ghost use Rattle.sql_text.specs.declared.query.OrderBy.TheVariants as by;
-ghost use Rattle.select_defs.specs.Examples.{Answers, Gives, Refuses, all, ascending, c, descending, int, is_null, k, null, number, rows, select, sum, t, that, u, v};
+ghost use Rattle.select_defs.specs.Examples.{Answers, Differs, Gives, Refuses, Serves, all, ascending, c, descending, int, is_null, k, null, number, rows, select, sum, t, that, u, v};
 ghost use Rattle.select_defs.specs.declared.select_error.SelectError.TheVariants as error;
 
 /// Sums, counts and extremes of groups: nulls count for nothing, and are a group of their own.
@@ -62,4 +62,15 @@ pub fn queries_are_refused_in_order()
     ensures date { Refuses u (record all { filters = that c op.Lt (number 1) ∷ [] }) (error.BadCompare c) }
     ensures grouped { Refuses t (record (select (item.Column c ∷ sum v ∷ [])) { group = k ∷ [] }) (error.NotGrouped c) }
     ensures star { Refuses t (record all { group = k ∷ [] }) (error.NotGrouped c) }
+{}
+
+/// Folds serve sums and extremes of groups by keys. Counts, rows, other aggregates of a SUM column and tests of it see the
+/// rows that were merged.
+pub fn folds_serve_some_queries()
+    ensures sums { Serves (record (select (item.Column k ∷ sum v ∷ [])) { group = k ∷ [] }) ((int 1 ∷ int 15 ∷ []) ∷ (int 2 ∷ int 7 ∷ []) ∷ []) }
+    ensures keys { Serves (record (select (item.Agg fn.Max k ∷ item.Agg fn.Min c ∷ [])) { filters = that c op.Eq (number 1) ∷ [] }) ((int 2 ∷ int 1 ∷ []) ∷ []) }
+    ensures counts { Differs (select (item.CountAll ∷ [])) ((int 3 ∷ []) ∷ []) ((int 2 ∷ []) ∷ []) }
+    ensures extremes { Differs (select (item.Agg fn.Min v ∷ [])) ((int 5 ∷ []) ∷ []) ((int 7 ∷ []) ∷ []) }
+    ensures tests { Differs (record (select (sum v ∷ [])) { filters = that v op.Gt (number 7) ∷ [] }) ((int 10 ∷ []) ∷ []) ((int 15 ∷ []) ∷ []) }
+    ensures plain { Differs (select (item.Column k ∷ [])) ((int 1 ∷ []) ∷ (int 1 ∷ []) ∷ (int 2 ∷ []) ∷ []) ((int 1 ∷ []) ∷ (int 2 ∷ []) ∷ []) }
 {}
