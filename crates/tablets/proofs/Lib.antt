@@ -1,2 +1,6 @@
 pub mod Versions
 pub mod Merging
+pub mod Sets
+pub mod Marks
+pub mod Changes
+pub mod Switch

@@ -1,0 +1,71 @@
+// An index of a table, with its tablets by partition and bucket.
+ghost use Rattle.std.specs.Prelude.{◌≡◌, ◌++◌, ◌∷◌, [], IfOk, OnOk, OnErr, replicate};
+ghost use Rattle.tablets.specs.Parting.{cut_to};
+ghost use Rattle.tablets.specs.SetView.{empty_index, empty_part, with_part};
+ghost use Rattle.tablets.specs.Shadows as shadows;
+
+use crate::Shadow;
+use crate::part::Part;
+use dl_values::NoMemory;
+use schema_models::Shape;
+use std::alloc::Global;
+use std::marker::Model;
+
+// Its number, whose shadow it is, its shape, and its tablets by partition and bucket.
+#[derive(Drop)]
+pub struct Index {
+    pub number: u64,
+    pub shadow: Option<Shadow>,
+    pub shape: Shape,
+    pub parts: Vec<Part>,
+}
+
+impl Model for Index {
+    ghost use Rattle.tablets.specs.SetView.{IndexView};
+
+    ghost Value = { IndexView };
+
+    ghost view = { λ i. record { number = i.number; shadow = i.shadow; shape = i.shape; parts = i.parts.items } };
+}
+
+impl Index {
+    // An index whose tablets have no rowset.
+    pub fn empty(
+        alloc: Global,
+        number: u64,
+        shadow: Option<Shadow>,
+        shape: Shape,
+        size: (u64, u64),
+    ) -> Result<Index, NoMemory>
+        ensures { IfOk result (λ i. i ≡ empty_index number shadow shape size.0 size.1) }
+    {
+        let parts = empty_parts(alloc, &shape, size)?;
+        Ok(Index {
+            number,
+            shadow,
+            shape,
+            parts,
+        })
+    }
+
+    // Whether it is a shadow of a job.
+    pub fn is_shadow_of(&self, job: u64) -> bool
+        ensures { result ≡ shadows.is_shadow_of job self.now }
+    {
+        match self.shadow {
+            None => false,
+            Some(shadow) => shadow.job == job,
+        }
+    }
+}
+
+// As many partitions whose tablets have no rowset.
+fn empty_parts(alloc: Global, shape: &Shape, size: (u64, u64)) -> Result<Vec<Part>, NoMemory>
+    ensures { IfOk result (λ v. v.items ≡ replicate size.0 (empty_part shape.now size.1)) }
+{
+    let mut parts = Vec::new(alloc);
+    for _ in 0..size.0 {
+        parts.push(Part::empty(alloc, shape, size.1)?)?;
+    }
+    Ok(parts)
+}
