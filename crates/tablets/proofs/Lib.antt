@@ -4,3 +4,5 @@ pub mod Sets
 pub mod Marks
 pub mod Changes
 pub mod Switch
+pub mod Steps
+pub mod Loops

@@ -48,6 +48,23 @@ impl Index {
         })
     }
 
+    // One partition more, at the end, its tablets empty.
+    pub fn add_part(&mut self, alloc: Global, buckets: u64) -> Result<(), NoMemory>
+        ensures ok { OnOk result (self.new ≡ with_part buckets self.old) }
+        ensures err { OnErr result (self.new ≡ self.old) }
+    {
+        let part = Part::empty(alloc, &self.shape, buckets)?;
+        self.parts.push(part)?;
+        Ok(())
+    }
+
+    // The first partitions alone.
+    pub fn cut(&mut self, parts: u64)
+        ensures { self.new ≡ cut_to parts self.old }
+    {
+        self.parts.truncate(parts as usize);
+    }
+
     // Whether it is a shadow of a job.
     pub fn is_shadow_of(&self, job: u64) -> bool
         ensures { result ≡ shadows.is_shadow_of job self.now }
@@ -55,6 +72,31 @@ impl Index {
         match self.shadow {
             None => false,
             Some(shadow) => shadow.job == job,
+        }
+    }
+
+    // The number whose place a shadow of a job is to take.
+    pub fn aim_of(&self, job: u64) -> Option<u64>
+        ensures { result ≡ shadows.aim_of job self.now }
+    {
+        match self.shadow {
+            None => None,
+            Some(shadow) => {
+                if shadow.job == job {
+                    shadow.replaces
+                } else {
+                    None
+                }
+            }
+        }
+    }
+
+    // No shadow of a job any more.
+    pub fn unmark(&mut self, job: u64)
+        ensures { self.new ≡ shadows.unmarked job self.old }
+    {
+        if self.is_shadow_of(job) {
+            self.shadow = None;
         }
     }
 }

@@ -8,6 +8,7 @@ mod held;
 mod index;
 mod named;
 mod part;
+mod parting;
 mod shadow;
 mod switching;
 mod tablet;

@@ -9,7 +9,8 @@ ghost use Rattle.tablets.specs.TabletView as tablets;
 
 use crate::finding::{place_of, tablet};
 use crate::index::Index;
-use crate::switching::drop_shadows;
+use crate::parting::{add_parts, cut_parts};
+use crate::switching::{drop_shadows, switch_shadows};
 use crate::{Compacted, Compaction, Gone, Shadow};
 use dl_outside::Steps;
 use dl_values::{NoMemory, Rows};
@@ -176,6 +177,26 @@ impl TabletSet {
         given
     }
 
+    /// One partition more, at the end, in every index, its tablets empty.
+    pub fn add_part(&mut self, alloc: Global) -> Result<(), NoMemory>
+        ensures ok { OnOk result (self.new ≡ sets.with_parts self.old) }
+        ensures err { OnErr result (self.new ≡ self.old) }
+    {
+        let Some(parts) = self.parts.checked_add(1) else {
+            return Err(NoMemory);
+        };
+        match add_parts(alloc, &mut self.indexes, self.buckets) {
+            Ok(()) => {
+                self.parts = parts;
+                Ok(())
+            }
+            Err(e) => {
+                cut_parts(&mut self.indexes, self.parts);
+                Err(e)
+            }
+        }
+    }
+
     /// One index more, a shadow of a job, its tablets empty.
     pub fn add_shadow(
         &mut self,
@@ -201,5 +222,13 @@ impl TabletSet {
         ensures { self.new ≡ shadows.without_job job self.old }
     {
         drop_shadows(&mut self.indexes, job);
+    }
+
+    /// Each shadow of a job takes the place and the number of the index that it replaces, or becomes a further index. Takes
+    /// no memory, and looks at no row.
+    pub fn switch(&mut self, job: u64)
+        ensures { self.new ≡ shadows.switched job self.old }
+    {
+        switch_shadows(&mut self.indexes, job);
     }
 }
