@@ -1,5 +1,5 @@
 -- The rowsets of a compaction, and what becomes of a tablet when they are merged.
-use Rattle.std.proofs.Common.{◌≡◌, ℕ, zero, suc, ◌<◌, ◌≤◌, Bool, true, false, cond, ◌&&◌, List, [], ◌∷◌, ◌++◌, map, length, drop, nat_eq, nat_lt, refl, sym, ap, ◌∙◌, subst, arith}
+use Rattle.std.proofs.Common.{◌≡◌, ℕ, zero, suc, ◌<◌, ◌≤◌, Bool, true, false, ◌&&◌, List, [], ◌∷◌, ◌++◌, map, length, drop, nat_eq, nat_lt, refl, sym, subst, arith}
 use Rattle.std.proofs.lemmas.Bool.Decides.{nat_tests}
 use Rattle.std.specs.List.{AllByRecursion}
 use Rattle.dl_values.specs.declared.cell.Cell.{Cell}
@@ -7,7 +7,7 @@ use Rattle.merge_read.specs.Lists.{AreSortedLists, IsSortedList, joined}
 use Rattle.rowsets.specs.RowsetView.{RowsetView, rowset_rows}
 use Rattle.schema_models.specs.RowRules.{IsOfShape}
 use Rattle.schema_models.specs.ShapeView.{ShapeView}
-use Rattle.tablets.specs.Compactions.{are_there, last_from, last_version, names_some, stand_first}
+use Rattle.tablets.specs.Compactions.{are_there, last_from, last_version, stand_first}
 use Rattle.tablets.specs.TabletView.{AreListsOf, Rises, StoredList, lists_past}
 use Rattle.tablets.proofs.Versions.{past_short}
 

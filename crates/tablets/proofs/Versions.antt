@@ -1,12 +1,11 @@
 -- Rowsets by rising versions: those up to a version stand first, and a rowset more or one for the first of them keeps the order.
-use Rattle.std.proofs.Common.{◌≡◌, ℕ, zero, suc, ◌+◌, ◌-◌, ◌<◌, ◌≤◌, Bool, true, false, cond, not, List, [], ◌∷◌, ◌++◌, map, length, take, nat_le, nat_lt, refl, sym, ap, ◌∙◌, subst, arith, add-one}
+use Rattle.std.proofs.Common.{◌≡◌, ℕ, zero, suc, ◌+◌, ◌<◌, ◌≤◌, Bool, true, false, cond, List, [], ◌∷◌, ◌++◌, map, length, take, nat_le, nat_lt, refl, ap, ◌∙◌, arith}
 use Rattle.std.proofs.lemmas.Bool.Decides.{nat_tests}
-use Rattle.std.specs.List.{filter, prefix_len, AllByRecursion}
-use Rattle.dl_values.specs.declared.cell.Cell.{Cell}
-use Rattle.merge_read.specs.Lists.{AreSortedLists, IsSortedList}
+use Rattle.std.specs.List.{prefix_len, AllByRecursion}
+use Rattle.merge_read.specs.Lists.{AreSortedLists}
 use Rattle.rowsets.specs.RowsetView.{IsListOf}
 use Rattle.schema_models.specs.ShapeView.{ShapeView}
-use Rattle.tablets.specs.TabletView.{AreListsOf, IsPast, IsTablet, Rises, StoredList, TabletView, is_to, list_rows, lists_past, lists_to, rows_of}
+use Rattle.tablets.specs.TabletView.{AreListsOf, IsPast, IsTablet, Rises, StoredList, TabletView, is_to, list_rows, lists_past, lists_to}
 
 none_to : (v : ℕ) (l : StoredList) (ls : List StoredList) → is_to v l ≡ false → AllByRecursion (λ m. l.last < m.last) ls → lists_to v ls ≡ []
 none_to v l [] e a = refl

@@ -1,10 +1,7 @@
 -- Compactions: the rowsets of a tablet merged into one (Apache Doris documentation, "Compaction").
-use Rattle.std.specs.Prelude.{◌≡◌, ℕ, Bool, true, false, not, ◌&&◌, List, [], ◌∷◌, map, length, nat_eq}
-use Rattle.dl_values.specs.declared.cell.Cell.{Cell}
+use Rattle.std.specs.Prelude.{◌≡◌, ℕ, Bool, true, false, ◌&&◌, List, [], ◌∷◌, map, nat_eq}
 use Rattle.rowsets.specs.RowsetView.{RowsetView, rowset_rows}
-use Rattle.merge_read.specs.Lists.{AreSortedLists, joined}
-use Rattle.schema_models.specs.Folds.{fold_of}
-use Rattle.schema_models.specs.ShapeView.{ShapeView}
+use Rattle.merge_read.specs.Lists.{AreSortedLists}
 use Rattle.tablets.specs.TabletView.{StoredList, TabletView, replaced}
 use Rattle.tablets.specs.declared.compaction.Compaction.{Compaction}
 

@@ -1,9 +1,9 @@
 -- What contracts see of a tablet: its rowsets by version (Apache Doris documentation, "Tablet", "Rowset", "Compaction").
-use Rattle.std.specs.Prelude.{◌≡◌, ◌<◌, ◌≤◌, ◌-◌, ℕ, Bool, true, false, not, ◌&&◌, List, [], ◌∷◌, ◌++◌, map, length, take, drop, nat_le, nat_lt, nat_eq}
+use Rattle.std.specs.Prelude.{◌<◌, ◌-◌, ℕ, Bool, List, [], ◌∷◌, ◌++◌, map, length, nat_le, nat_lt}
 use Rattle.std.specs.List.{filter, AllByRecursion}
 use Rattle.dl_values.specs.declared.cell.Cell.{Cell}
 use Rattle.merge_read.specs.Lists.{joined}
-use Rattle.rowsets.specs.RowsetView.{IsListOf, IsMadeFor, RowsetView, rowset_rows}
+use Rattle.rowsets.specs.RowsetView.{IsListOf, RowsetView, rowset_rows}
 use Rattle.schema_models.specs.Folds.{fold_of}
 use Rattle.schema_models.specs.ShapeView.{ShapeView}
 

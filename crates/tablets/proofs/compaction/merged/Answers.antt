@@ -1,4 +1,4 @@
-use Rattle.std.proofs.Common.{◌≡◌, List, map, subst, sym}
+use Rattle.std.proofs.Common.{List, map, subst, sym}
 use Rattle.std.specs.List.{AllByRecursion}
 use Rattle.dl_values.specs.declared.cell.Cell.{Cell}
 use Rattle.merge_read.specs.Lists.{joined}

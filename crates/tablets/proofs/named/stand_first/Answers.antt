@@ -1,4 +1,4 @@
-use Rattle.std.proofs.Common.{◌≡◌, ◌≤◌, length, sym, ◌∙◌, arith}
+use Rattle.std.proofs.Common.{◌≤◌, length, sym, ◌∙◌, arith}
 use Rattle.tablets.proofs.Merging.{none_left}
 use Rattle.tablets.proofs.named.stand_first.Goals as goal
 

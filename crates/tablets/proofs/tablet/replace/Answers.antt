@@ -1,4 +1,4 @@
-use Rattle.std.proofs.Common.{◌≡◌, ◌∷◌, List, rules, arith, ap, ◌∙◌, sym, length, nat_lt}
+use Rattle.std.proofs.Common.{◌≡◌, ◌∷◌, List, rules, arith, ap, ◌∙◌, length, nat_lt}
 use Rattle.std.proofs.lemmas.Fn.{filter_same}
 use Rattle.tablets.specs.TabletView.{StoredList, lists_past}
 use Rattle.tablets.proofs.tablet.replace.Goals as goal

@@ -1,4 +1,4 @@
-use Rattle.std.proofs.Common.{◌≡◌, List, ℕ, ◌<◌, ◌-◌, length, ap, ◌∙◌, sym, subst, arith}
+use Rattle.std.proofs.Common.{List, ◌<◌, sym, subst, arith}
 use Rattle.std.specs.Vec.{vec_capacity}
 use Rattle.tablets.specs.TabletView.{IsTablet, StoredList, TabletView, spare}
 use Rattle.tablets.specs.contracts.tablet.Tablet.{the_view}

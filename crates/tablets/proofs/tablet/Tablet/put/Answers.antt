@@ -1,5 +1,4 @@
-use Rattle.std.proofs.Common.{◌≡◌, List, ap, ◌∙◌, sym, subst}
-use Rattle.rowsets.specs.RowsetView.{IsListOf}
+use Rattle.std.proofs.Common.{List, sym, subst}
 use Rattle.std.specs.Vec.{vec_capacity}
 use Rattle.tablets.specs.TabletView.{IsPast, IsTablet, StoredList, TabletView}
 use Rattle.tablets.specs.contracts.tablet.Tablet.{the_view}

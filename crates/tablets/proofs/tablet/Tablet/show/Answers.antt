@@ -1,9 +1,8 @@
-use Rattle.std.proofs.Common.{◌≡◌, ℕ, ◌+◌, List, [], map, take, subst, sym, ap, ◌∙◌, IfOk, OnOk}
+use Rattle.std.proofs.Common.{◌≡◌, ℕ, ◌+◌, List, map, take, subst, sym, ap, ◌∙◌, IfOk, OnOk}
 use Rattle.std.specs.List.{prefix_len}
 use Rattle.merge_read.specs.Lists.{AreSortedLists, joined, stored}
 use Rattle.schema_models.specs.Folds.{fold_of}
 use Rattle.tablets.specs.TabletView.{StoredList, TabletView, is_to, list_rows, lists_to, rows_at, rows_of}
-use Rattle.tablets.specs.contracts.tablet.Tablet.{the_view}
 use Rattle.tablets.proofs.Versions.{sorted_front, to_front}
 use Rattle.tablets.proofs.tablet.Tablet.show.Goals as goal
 

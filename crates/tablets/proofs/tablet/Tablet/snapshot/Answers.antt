@@ -1,7 +1,6 @@
-use Rattle.std.proofs.Common.{◌≡◌, ℕ, List, [], map, take, subst, sym, ap, ◌∙◌, IfOk}
+use Rattle.std.proofs.Common.{◌≡◌, ℕ, List, map, take, subst, sym, ap, ◌∙◌, IfOk}
 use Rattle.std.specs.List.{prefix_len}
 use Rattle.tablets.specs.TabletView.{StoredList, TabletView, is_to, lists_to}
-use Rattle.tablets.specs.contracts.tablet.Tablet.{the_view}
 use Rattle.tablets.proofs.Versions.{to_front}
 use Rattle.tablets.proofs.tablet.Tablet.snapshot.Goals as goal
 

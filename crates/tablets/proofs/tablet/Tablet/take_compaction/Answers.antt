@@ -1,9 +1,8 @@
-use Rattle.std.proofs.Common.{◌≡◌, ◌≤◌, List, Global, map, length, ap, ◌∙◌, sym, subst, arith, rules}
+use Rattle.std.proofs.Common.{◌≤◌, List, Global, map, length, ap, ◌∙◌, subst, arith}
 use Rattle.std.specs.declared.sync.Arc.{Arc}
 use Rattle.rowsets.specs.declared.rowset.Rowset.{Rowset}
 use Rattle.tablets.specs.Compactions.{IsCompactionOf, versions_of}
 use Rattle.tablets.specs.TabletView.{StoredList, TabletView}
-use Rattle.tablets.specs.contracts.tablet.Tablet.{the_view}
 use Rattle.tablets.proofs.Merging.{sorted_shared}
 use Rattle.tablets.proofs.tablet.Tablet.take_compaction.Goals as goal
 
