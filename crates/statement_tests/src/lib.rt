@@ -1,14 +1,8 @@
-//! Tests of statements, of queries, and of the definitions of tables and layouts.
+//! Tests of statements: their tokens, what they are, and how they are printed.
 #![tactic(auto)]
 
 #[cfg(test)]
-mod definitions;
-#[cfg(test)]
-mod layouts;
-#[cfg(test)]
 mod printing;
-#[cfg(test)]
-mod queries;
 #[cfg(test)]
 mod statements;
 #[cfg(test)]

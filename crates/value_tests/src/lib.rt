@@ -1,4 +1,4 @@
-//! Tests of the outside, of values, merges, shapes, folds, labels and readings of stored rows.
+//! Tests of the outside, of values, merges, shapes and folds.
 #![tactic(auto)]
 
 #[cfg(test)]
@@ -6,15 +6,11 @@ mod encoded;
 #[cfg(test)]
 mod folds;
 #[cfg(test)]
-mod label_books;
-#[cfg(test)]
 mod merges;
 #[cfg(test)]
 mod outside;
 #[cfg(test)]
 mod plain_folds;
-#[cfg(test)]
-mod readings;
 #[cfg(test)]
 mod shapes;
 #[cfg(test)]

@@ -2,7 +2,7 @@
 use Rattle.std.proofs.Common.{◌≤◌, length, drop}
 use Rattle.std.specs.List.{AllByRecursion}
 use Rattle.schema_models.specs.RowRules.{IsOfShape}
-use Rattle.value_tests.proofs.readings.sorted.are_of_shape.Given as goal
+use Rattle.stored_tests.proofs.readings.sorted.are_of_shape.Given as goal
 
 abbrev pub invariant-loop-place : goal.invariant-loop-place
 invariant-loop-place l = record {

@@ -1,7 +1,7 @@
 -- The last lists are sorted.
 use Rattle.std.proofs.Common.{◌≤◌, length, drop, map}
 use Rattle.merge_read.specs.Lists.{AreSortedLists}
-use Rattle.value_tests.proofs.readings.sorted.are_lists.Given as goal
+use Rattle.stored_tests.proofs.readings.sorted.are_lists.Given as goal
 
 abbrev pub invariant-loop-place : goal.invariant-loop-place
 invariant-loop-place l = record {

@@ -1,4 +1,4 @@
-use Rattle.value_tests.proofs.readings.read_twice.Given as goal
+use Rattle.stored_tests.proofs.readings.read_twice.Given as goal
 
 abbrev pub ghosts-at_once : goal.ghosts-at_once
 ghosts-at_once a = record { name = a.blank.name; parts = a.blank.parts }

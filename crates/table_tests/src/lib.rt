@@ -1,0 +1,9 @@
+//! Tests of queries, and of the definitions of tables and layouts.
+#![tactic(auto)]
+
+#[cfg(test)]
+mod definitions;
+#[cfg(test)]
+mod layouts;
+#[cfg(test)]
+mod queries;
