@@ -2,8 +2,8 @@
 ghost use Rattle.std.specs.Prelude.{◌≡◌, ◌<◌, map};
 ghost use Rattle.merge_read.specs.Lists.{AreSortedLists};
 
-mod counted;
-mod sorted;
+pub mod counted;
+pub mod sorted;
 mod tables;
 
 use counted::{Counted, all_looks};

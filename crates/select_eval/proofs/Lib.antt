@@ -1,0 +1,5 @@
+pub mod PlaceLaws
+pub mod ConditionLaws
+pub mod PassingLaws
+pub mod Refused
+pub mod Twice

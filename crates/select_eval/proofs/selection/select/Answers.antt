@@ -1,0 +1,27 @@
+use Rattle.std.proofs.Common.{◌≡◌, ◌∙◌, Result, Err, inr, sym, ap, map, Option, Some}
+use Rattle.dl_values.specs.declared.result_set.ResultSet.{ResultSet}
+use Rattle.merge_read.specs.Lists.{joined}
+use Rattle.schema_models.specs.Folds.{fold_of}
+use Rattle.select_defs.specs.declared.select_error.SelectError.{SelectError}
+use Rattle.select_eval.proofs.Refused.{never_refused, refuses}
+use Rattle.select_eval.proofs.selection.select.Goals as goal
+
+abbrev failing : SelectError → Result ResultSet SelectError
+failing e = Err e
+
+same_error : (a b : SelectError) → failing a ≡ failing b → a ≡ b
+same_error a b h = cc
+
+abbrev told : SelectError → Option SelectError
+told e = Some e
+
+pub returns-in-Ok-None-clause-unread : goal.returns-in-Ok-None-clause-unread
+returns-in-Ok-None-clause-unread g c = λ e h.
+    let rows = fold_of c.args.index.now (joined (map (λ l. g.R.SortedRows.rows l) c.args.lists.now)) in
+    absurd (never_refused c.args.base.now c.args.index.now c.args.query.now rows e (sym c.in-Ok-None.field-0-is ∙ c.in-Ok-None.ensures) h)
+
+pub returns-in-Ok-Some-clause-refused : goal.returns-in-Ok-Some-clause-refused
+returns-in-Ok-Some-clause-refused g c = λ e h.
+    let rows = fold_of c.args.index.now (joined (map (λ l. g.R.SortedRows.rows l) c.args.lists.now)) in
+    inr (refuses c.args.base.now c.args.index.now c.args.query.now rows e
+    (sym (ap told (same_error c.in-Ok-Some.refused e h)) ∙ sym c.in-Ok-Some.field-0-is ∙ c.in-Ok-Some.ensures))

@@ -1,0 +1,141 @@
+// Queries over lists, with their answers or refusals as texts, worked out by hand.
+use dl_values::AggKind;
+use schema_models::{Model, Role};
+
+// The rows of three lists, the oldest first. Of two keys there are rows in two lists, and one key is null.
+const LISTS: &[&str] = &["\\N,3\n1,5\n2,7", "", "1,6\n2,\\N\n3,\\N"];
+
+// A model with the role of its second column, its lists, queries over them, and how often a row is looked at for each.
+pub struct Case {
+    pub model: Model,
+    pub role: Role,
+    pub lists: &'static [&'static str],
+    pub queries: &'static [(&'static str, &'static str)],
+    pub looks: usize,
+}
+
+// The rows are (null,3), (1,5), (1,6), (2,null), (2,7), (3,null).
+const DUPLICATE: &[(&str, &str)] = &[
+    (
+        "SELECT * FROM t",
+        "k INT,v BIGINT;\\N,3;1,5;1,6;2,\\N;2,7;3,\\N;",
+    ),
+    ("SELECT v FROM t WHERE k = 1", "v BIGINT;5;6;"),
+    ("SELECT k FROM t WHERE v IS NULL", "k INT;2;3;"),
+    ("SELECT k FROM t WHERE v <> 5", "k INT;\\N;1;2;"),
+    (
+        "SELECT * FROM t ORDER BY k DESC LIMIT 3",
+        "k INT,v BIGINT;3,\\N;2,\\N;2,7;",
+    ),
+    ("SELECT k FROM t ORDER BY k", "k INT;\\N;1;1;2;2;3;"),
+    (
+        "SELECT * FROM t ORDER BY 2 DESC LIMIT 2",
+        "k INT,v BIGINT;2,7;1,6;",
+    ),
+    ("SELECT * FROM t LIMIT 0", "k INT,v BIGINT;"),
+    (
+        "SELECT k, COUNT(v), COUNT(*) FROM t GROUP BY k",
+        "k INT,count(v) BIGINT,count(*) BIGINT;\\N,1,1;1,2,2;2,1,2;3,0,1;",
+    ),
+    (
+        "SELECT SUM(v), k, MIN(v), MAX(v) FROM t GROUP BY k ORDER BY k DESC",
+        "sum(v) BIGINT,k INT,min(v) BIGINT,max(v) BIGINT;\\N,3,\\N,\\N;7,2,7,7;11,1,5,6;3,\\N,3,3;",
+    ),
+    ("SELECT k FROM t GROUP BY k, v", "k INT;\\N;1;1;2;2;3;"),
+    (
+        "SELECT COUNT(*), SUM(v) FROM t WHERE k = 9",
+        "count(*) BIGINT,sum(v) BIGINT;0,\\N;",
+    ),
+];
+
+const REFUSED: &[(&str, &str)] = &[
+    (
+        "SELECT v, k FROM t GROUP BY k, v ORDER BY COUNT(*)",
+        "NoColumn column=count(*)",
+    ),
+    ("SELECT v FROM t GROUP BY k", "NotGrouped column=v"),
+    ("SELECT x FROM t", "NoColumn column=x"),
+    ("SELECT k FROM t WHERE k = 'x'", "BadCompare column=k"),
+];
+
+// The rows are (null,3), (1,6), (2,null), (3,null).
+const UNIQUE: &[(&str, &str)] = &[
+    ("SELECT * FROM t", "k INT,v BIGINT;\\N,3;1,6;2,\\N;3,\\N;"),
+    ("SELECT k FROM t WHERE v IS NOT NULL", "k INT;\\N;1;"),
+    (
+        "SELECT v, COUNT(*) FROM t GROUP BY v",
+        "v BIGINT,count(*) BIGINT;\\N,2;3,1;6,1;",
+    ),
+    ("SELECT v FROM t ORDER BY v DESC LIMIT 1", "v BIGINT;6;"),
+];
+
+// The rows are (null,3), (1,11), (2,7), (3,null).
+const AGGREGATE: &[(&str, &str)] = &[
+    ("SELECT * FROM t", "k INT,v BIGINT;\\N,3;1,11;2,7;3,\\N;"),
+    ("SELECT k FROM t WHERE v = 11", "k INT;1;"),
+    (
+        "SELECT SUM(v), MAX(k), COUNT(k), MIN(v) FROM t",
+        "sum(v) BIGINT,max(k) INT,count(k) BIGINT,min(v) BIGINT;21,3,3,3;",
+    ),
+    ("SELECT v FROM t WHERE k >= 2", "v BIGINT;\\N;7;"),
+];
+
+// No row is stored.
+const EMPTY: &[(&str, &str)] = &[
+    ("SELECT * FROM t", "k INT,v BIGINT;"),
+    (
+        "SELECT COUNT(*), MIN(v) FROM t",
+        "count(*) BIGINT,min(v) BIGINT;0,\\N;",
+    ),
+    ("SELECT COUNT(*) FROM t GROUP BY k", "count(*) BIGINT;"),
+    ("SELECT COUNT(*) FROM t LIMIT 0", "count(*) BIGINT;"),
+];
+
+const CASES: &[Case] = &[
+    Case {
+        model: Model::Duplicate,
+        role: Role::Plain,
+        lists: LISTS,
+        queries: DUPLICATE,
+        looks: 6,
+    },
+    Case {
+        model: Model::Duplicate,
+        role: Role::Plain,
+        lists: LISTS,
+        queries: REFUSED,
+        looks: 0,
+    },
+    Case {
+        model: Model::Unique,
+        role: Role::Plain,
+        lists: LISTS,
+        queries: UNIQUE,
+        looks: 6,
+    },
+    Case {
+        model: Model::Aggregate,
+        role: Role::Agg(AggKind::Sum),
+        lists: LISTS,
+        queries: AGGREGATE,
+        looks: 6,
+    },
+    Case {
+        model: Model::Duplicate,
+        role: Role::Plain,
+        lists: &["", ""],
+        queries: EMPTY,
+        looks: 0,
+    },
+    Case {
+        model: Model::Unique,
+        role: Role::Plain,
+        lists: &[],
+        queries: EMPTY,
+        looks: 0,
+    },
+];
+
+pub fn cases() -> &'static [Case] {
+    CASES
+}
