@@ -1,10 +1,10 @@
 mod Evals
 mod Exchanges
 mod FoldCounts
-mod Joins
+pub mod Joins
 mod KeptRows
 mod KeyTests
-mod Neighbours
+pub mod Neighbours
 mod OrderLaws
 mod Served
 mod ServedItems

@@ -15,9 +15,11 @@ mod orders;
 mod refusals;
 mod select_error;
 
+pub use columns::kind_named;
 pub use evaluation::eval;
 pub use filters::literal_cell;
 pub use item_names::{output_names, output_types, type_text};
 pub use items::items_of;
-pub use refusals::refusal;
+pub use orders::{limited, sort};
+pub use refusals::{is_grouped, refusal};
 pub use select_error::SelectError;

@@ -11,7 +11,7 @@ pub refuses : (base s : ShapeView) (q : Query) (rows : List (List Cell)) (e : Se
 unfolding Eval
 refuses base s q rows e h = ap (λ (r : Option SelectError). unless r (answer base s q rows)) (sym h)
 
-answers : (base s : ShapeView) (q : Query) (rows : List (List Cell)) → None ≡ refusal base q → Eval base s q rows ≡ Ok (answer base s q rows)
+pub answers : (base s : ShapeView) (q : Query) (rows : List (List Cell)) → None ≡ refusal base q → Eval base s q rows ≡ Ok (answer base s q rows)
 unfolding Eval
 answers base s q rows h = ap (λ (r : Option SelectError). unless r (answer base s q rows)) (sym h)
 

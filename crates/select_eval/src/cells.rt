@@ -1,10 +1,12 @@
 // Cells of merged rows.
-ghost use Rattle.std.specs.Prelude.{◌≡◌, IfOk, OnOk, MatchOption, ◌++◌, ◌∷◌, []};
+ghost use Rattle.std.specs.Prelude.{◌≡◌, IfOk, MatchOption};
 ghost use Rattle.dl_values.specs.declared.cell.Cell.TheVariants as cell;
 ghost use Rattle.merge_read.specs.Merged.{cell_of, row_of};
+ghost use Rattle.select_defs.specs.Filters.{is_null};
 ghost use Rattle.select_eval.specs.Places as at;
 
-use dl_values::{Cell, NoMemory, Row, Rows, copy_cell};
+use crate::asked::is_null;
+use dl_values::{Cell, NoMemory, copy_cell};
 use merge_read::MergedCell;
 use std::alloc::Global;
 
@@ -18,6 +20,16 @@ pub fn cell_at<'a>(row: &[MergedCell<'a>], place: Option<usize>) -> Option<Merge
     }
 }
 
+// Whether the cell of a row at a place is null.
+pub fn is_null_at(row: &[MergedCell], place: Option<usize>) -> bool
+    ensures { result ≡ is_null (at.cell_in (row_of row.now) place) }
+{
+    match place {
+        Some(place) if place < row.len() => is_null(row[place]),
+        _ => true,
+    }
+}
+
 // An equal cell of its own.
 fn copy_merged(alloc: Global, cell: MergedCell) -> Result<Cell, NoMemory>
     ensures { IfOk result (λ c. c ≡ cell_of cell.entry) }
@@ -28,13 +40,22 @@ fn copy_merged(alloc: Global, cell: MergedCell) -> Result<Cell, NoMemory>
     }
 }
 
-// Adds a row of equal cells at the end.
-pub fn add_row(alloc: Global, all: &mut Rows, cells: &[MergedCell]) -> Result<(), NoMemory>
-    ensures { OnOk result (all.new ≡ all.old ++ row_of cells.now ∷ []) }
+// An equal cell of its own of the cell of a row at a place.
+pub fn copy_at(alloc: Global, row: &[MergedCell], place: Option<usize>) -> Result<Cell, NoMemory>
+    ensures { IfOk result (λ c. c ≡ at.cell_in (row_of row.now) place) }
 {
-    let mut row = Row::with_room(alloc, cells.len())?;
-    for i in 0..cells.len() {
-        row.push(copy_merged(alloc, cells[i])?)?;
+    match place {
+        Some(place) if place < row.len() => copy_merged(alloc, row[place]),
+        _ => Ok(Cell::Null),
     }
-    all.append(&mut row)
+}
+
+// An equal cell of its own of the cell of a key at a place.
+pub fn copy_of_key(alloc: Global, key: &[Cell], place: Option<usize>) -> Result<Cell, NoMemory>
+    ensures { IfOk result (λ c. c ≡ at.cell_in key.now place) }
+{
+    match place {
+        Some(place) if place < key.len() => copy_cell(alloc, &key[place]),
+        _ => Ok(Cell::Null),
+    }
 }

@@ -4,10 +4,9 @@ ghost use Rattle.select_eval.specs.Conditions as conditions;
 
 use crate::asked::Asked;
 use crate::condition::Condition;
-use crate::kinds::kind_named;
 use dl_values::{ColType, NoMemory};
 use schema_models::Shape;
-use select_defs::literal_cell;
+use select_defs::{kind_named, literal_cell};
 use sql_text::{Check, Filter};
 use std::alloc::Global;
 

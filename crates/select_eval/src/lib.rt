@@ -1,13 +1,16 @@
-//! What a query answers over stored lists: they are read once, row by row, and only the rows that pass its tests are kept.
+//! What a query answers over stored lists: they are read once, row by row, into groups or rows of the answer.
 #![tactic(auto)]
 
 mod asked;
 mod cells;
 mod condition;
 mod conditions;
-mod kinds;
+mod group;
+mod group_key;
+mod grouping;
+mod output;
+mod output_rows;
 mod passing;
-mod passing_rows;
 mod selection;
 
 pub use selection::select;

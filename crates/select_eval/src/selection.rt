@@ -1,46 +1,68 @@
 // What a query answers over stored lists.
-ghost use Rattle.std.specs.Prelude.{◌≡◌, ◌⊎◌, ◌+◌, ◌≤◌, OnOk, Ok, Err, map};
+ghost use Rattle.std.specs.Prelude.{◌≡◌, ◌⊎◌, ◌+◌, ◌≤◌, IfOk, OnOk, Ok, Err, map};
 ghost use Rattle.dl_values.specs.declared.result_set.ResultSet.{ResultSet};
 ghost use Rattle.merge_read.specs.Lists.{AreSortedLists, joined, stored};
 ghost use Rattle.schema_models.specs.Folds.{fold_of};
-ghost use Rattle.select_defs.specs.Eval.{Answer, Eval, IsAnswer};
+ghost use Rattle.select_defs.specs.Eval.{Answer, Eval, IsAnswer, answer};
+ghost use Rattle.select_defs.specs.Items as items;
 ghost use Rattle.select_defs.specs.declared.select_error.SelectError.{SelectError};
 ghost use Rattle.select_defs.specs.declared.select_error.SelectError.TheVariants as error;
 
-use crate::passing_rows::passing_rows;
+use crate::output_rows::output_rows;
 use dl_outside::Steps;
-use dl_values::{NoMemory, ResultSet};
+use dl_values::{NoMemory, ResultSet, Rows};
 use row_fold::SortedRows;
 use schema_models::Shape;
-use select_defs::{SelectError, eval, refusal};
-use sql_text::Query;
+use select_defs::{SelectError, items_of, limited, output_names, output_types, refusal, sort};
+use sql_text::{Item, Query};
 use std::alloc::Global;
 use std::sync::ledger::Ledger;
 
-// What a query answers over the rows that pass its tests, and so over all.
-fn eval_passing<R: SortedRows, L: Ledger>(
+// The rows of an answer, in their order and as many as are asked for.
+fn answer_rows<R: SortedRows, L: Ledger>(
+    alloc: Global,
+    base: &Shape,
+    index: &Shape,
+    lists: &[R],
+    query: &Query,
+    list: &[Item],
+    steps: &mut Steps<L>,
+) -> Result<Rows, NoMemory>
+    requires sorted { AreSortedLists index.now (map (λ l. R.rows l) lists.now) }
+    requires list { list.now ≡ items.items_of base.now query.now }
+    ensures rows { IfOk result (λ out. out ≡ (answer base.now index.now query.now (fold_of index.now (joined (map (λ l. R.rows l) lists.now)))).rows) }
+    ensures counted { OnOk result (steps.new ≡ steps.old + stored (map (λ l. R.rows l) lists.now)) }
+    ensures within { steps.new ≤ steps.old + stored (map (λ l. R.rows l) lists.now) }
+{
+    let mut rows = output_rows(alloc, base, index, lists, query, list, steps)?;
+    sort(list, query.order.as_slice(), &mut rows)?;
+    limited(alloc, query.limit, rows.as_slice())
+}
+
+// The answer of a query that is not refused.
+fn answer_of<R: SortedRows, L: Ledger>(
     alloc: Global,
     base: &Shape,
     index: &Shape,
     lists: &[R],
     query: &Query,
     steps: &mut Steps<L>,
-) -> Result<ResultSet, SelectError>
+) -> Result<ResultSet, NoMemory>
     requires { AreSortedLists index.now (map (λ l. R.rows l) lists.now) }
-    ensures answered { (set : ResultSet) → result ≡ Ok set → (a : Answer) × (Eval base.now index.now query.now (fold_of index.now (joined (map (λ l. R.rows l) lists.now))) ≡ Ok a) × IsAnswer a set }
-    ensures refused { (e : SelectError) → result ≡ Err e → (e ≡ error.NoMemory) ⊎ (Eval base.now index.now query.now (fold_of index.now (joined (map (λ l. R.rows l) lists.now))) ≡ Err e) }
+    ensures answered { IfOk result (λ set. IsAnswer (answer base.now index.now query.now (fold_of index.now (joined (map (λ l. R.rows l) lists.now)))) set) }
     ensures counted { OnOk result (steps.new ≡ steps.old + stored (map (λ l. R.rows l) lists.now)) }
     ensures within { steps.new ≤ steps.old + stored (map (λ l. R.rows l) lists.now) }
 {
-    match passing_rows(alloc, base, index, lists, query, steps) {
-        Ok(rows) => eval(alloc, base, index, query, &rows),
-        Err(NoMemory) => Err(SelectError::NoMemory),
-    }
+    let list = items_of(alloc, base, query)?;
+    let names = output_names(alloc, list.as_slice())?;
+    let types = output_types(alloc, base, list.as_slice())?;
+    let rows = answer_rows(alloc, base, index, lists, query, list.as_slice(), steps)?;
+    Ok(ResultSet { names, types, rows })
 }
 
 /// What a query answers over the fold of stored lists, of which the oldest stands first: the base is the shape that the
-/// query is written for, the index that of the lists. The rows that pass its tests are kept until they are grouped and
-/// ordered.
+/// query is written for, the index that of the lists. A row that passes its tests goes into its group, or becomes a row of the
+/// answer, before the next is read; the rows of the answer are then ordered and limited.
 pub fn select<R: SortedRows, L: Ledger>(
     alloc: Global,
     base: &Shape,
@@ -61,7 +83,10 @@ pub fn select<R: SortedRows, L: Ledger>(
     ensures within { steps.new ≤ steps.old + stored (map (λ l. R.rows l) lists.now) }
 {
     match refusal(alloc, base, query) {
-        Ok(None) => eval_passing(alloc, base, index, lists, query, steps),
+        Ok(None) => match answer_of(alloc, base, index, lists, query, steps) {
+            Ok(set) => Ok(set),
+            Err(NoMemory) => Err(SelectError::NoMemory),
+        },
         Ok(Some(refused)) => Err(refused),
         Err(NoMemory) => Err(SelectError::NoMemory),
     }

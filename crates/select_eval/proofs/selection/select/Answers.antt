@@ -1,9 +1,10 @@
-use Rattle.std.proofs.Common.{◌≡◌, ◌∙◌, Result, Err, inr, sym, ap, map, Option, Some}
+use Rattle.std.proofs.Common.{◌≡◌, ◌∙◌, Result, Ok, Err, inr, sym, ap, map, Option, Some, subst}
 use Rattle.dl_values.specs.declared.result_set.ResultSet.{ResultSet}
 use Rattle.merge_read.specs.Lists.{joined}
 use Rattle.schema_models.specs.Folds.{fold_of}
 use Rattle.select_defs.specs.declared.select_error.SelectError.{SelectError}
-use Rattle.select_eval.proofs.Refused.{never_refused, refuses}
+use Rattle.select_defs.specs.Eval.{IsAnswer, answer}
+use Rattle.select_eval.proofs.Refused.{answers, never_refused, refuses}
 use Rattle.select_eval.proofs.selection.select.Goals as goal
 
 abbrev failing : SelectError → Result ResultSet SelectError
@@ -12,11 +13,28 @@ failing e = Err e
 same_error : (a b : SelectError) → failing a ≡ failing b → a ≡ b
 same_error a b h = cc
 
+abbrev given : ResultSet → Result ResultSet SelectError
+given set = Ok set
+
+same_set : (a b : ResultSet) → given a ≡ given b → a ≡ b
+same_set a b h = cc
+
 abbrev told : SelectError → Option SelectError
 told e = Some e
 
-pub returns-in-Ok-None-clause-unread : goal.returns-in-Ok-None-clause-unread
-returns-in-Ok-None-clause-unread g c = λ e h.
+pub returns-in-Ok-clause-answered : goal.returns-in-Ok-clause-answered
+returns-in-Ok-clause-answered g c = λ set h.
+    let rows = fold_of c.args.index.now (joined (map (λ l. g.R.SortedRows.rows l) c.args.lists.now)) in
+    let a = answer c.args.base.now c.args.index.now c.args.query.now rows in
+    (a, answers c.args.base.now c.args.index.now c.args.query.now rows (sym c.in-Ok-None.field-0-is ∙ c.in-Ok-None.ensures), subst (IsAnswer a) (same_set c.in-Ok.set set h) c.in-Ok.ensures.answered)
+
+pub returns-in-Ok-clause-unread : goal.returns-in-Ok-clause-unread
+returns-in-Ok-clause-unread g c = λ e h.
+    let rows = fold_of c.args.index.now (joined (map (λ l. g.R.SortedRows.rows l) c.args.lists.now)) in
+    absurd (never_refused c.args.base.now c.args.index.now c.args.query.now rows e (sym c.in-Ok-None.field-0-is ∙ c.in-Ok-None.ensures) h)
+
+pub returns-in-Err-answer_of-clause-unread : goal.returns-in-Err-answer_of-clause-unread
+returns-in-Err-answer_of-clause-unread g c = λ e h.
     let rows = fold_of c.args.index.now (joined (map (λ l. g.R.SortedRows.rows l) c.args.lists.now)) in
     absurd (never_refused c.args.base.now c.args.index.now c.args.query.now rows e (sym c.in-Ok-None.field-0-is ∙ c.in-Ok-None.ensures) h)
 

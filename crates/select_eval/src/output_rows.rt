@@ -1,0 +1,152 @@
+// The rows of an answer over stored lists, before they are ordered: one for each row that passes, or for each group of them.
+ghost use Rattle.std.specs.Prelude.{◌≡◌, ◌+◌, ◌≤◌, IfOk, OnOk, map};
+ghost use Rattle.merge_read.specs.Lists.{AreSortedLists, joined, stored};
+ghost use Rattle.merge_read.specs.Merged.{row_of};
+ghost use Rattle.schema_models.specs.Folds.{fold_of};
+ghost use Rattle.select_defs.specs.Groups as groups;
+ghost use Rattle.select_defs.specs.Items.{items_of};
+ghost use Rattle.select_eval.specs.Grouping as growing;
+ghost use Rattle.select_eval.specs.Groupings.{output_rows_of};
+ghost use Rattle.select_eval.specs.Outputs as outputs;
+ghost use Rattle.select_eval.specs.Passing.{still_passing};
+
+use crate::cells::copy_at;
+use crate::condition::Condition;
+use crate::conditions::conditions_of;
+use crate::group::Group;
+use crate::group_key::GroupKey;
+use crate::grouping::{Grouping, rows_of};
+use crate::passing::next_passing;
+use dl_outside::Steps;
+use dl_values::{NoMemory, Row};
+use merge_read::{Merge, MergedCell};
+use row_fold::SortedRows;
+use schema_models::Shape;
+use select_defs::is_grouped;
+use sql_text::{Item, Query};
+use std::alloc::Global;
+use std::collections::BTreeMap;
+use std::sync::ledger::Ledger;
+
+fn plain_place(index: &Shape, item: &Item) -> Option<usize>
+    ensures { result ≡ outputs.plain_place index.now item.now }
+{
+    match item {
+        Item::Column(name) => index.position(name),
+        Item::Agg(..) | Item::CountAll => None,
+    }
+}
+
+fn plain_places(alloc: Global, index: &Shape, list: &[Item]) -> Result<Vec<Option<usize>>, NoMemory>
+    ensures { IfOk result (λ v. v.items ≡ map (outputs.plain_place index.now) list.now) }
+{
+    let mut all = Vec::with_capacity(alloc, list.len())?;
+    for item in list {
+        all.push(plain_place(index, item))?;
+    }
+    Ok(all)
+}
+
+// The cells of a row at these places, as a row of its own.
+fn plain_row(alloc: Global, places: &[Option<usize>], row: &[MergedCell]) -> Result<Row, NoMemory>
+    ensures { IfOk result (λ r. r ≡ outputs.cells_in places.now (row_of row.now)) }
+{
+    let mut out = Row::with_room(alloc, places.len())?;
+    for place in places {
+        out.push(copy_at(alloc, row, *place)?)?;
+    }
+    Ok(out)
+}
+
+// The rows still to come of a reading that pass, each as its cells at these places.
+fn plain_rows<'a, R: SortedRows, L: Ledger>(
+    alloc: Global,
+    places: &[Option<usize>],
+    conditions: &[Condition],
+    merge: &mut Merge<'a, R>,
+    steps: &mut Steps<L>,
+) -> Result<Vec<Row>, NoMemory>
+    ensures rows { IfOk result (λ v. v.items ≡ map (outputs.cells_in places.now) (still_passing conditions.now merge.old)) }
+    ensures counted { OnOk result (steps.new ≡ steps.old + merge.old.unread) }
+    ensures within { steps.new ≤ steps.old + merge.old.unread }
+{
+    let mut all = Vec::new(alloc);
+    'rows: while next_passing(merge, conditions, steps) {
+        all.push(plain_row(alloc, places, merge.present())?)?;
+    }
+    Ok(all)
+}
+
+// The groups of the rows still to come of a reading that pass.
+fn groups_in<'a, R: SortedRows, L: Ledger>(
+    alloc: Global,
+    grouping: &Grouping,
+    conditions: &[Condition],
+    merge: &mut Merge<'a, R>,
+    steps: &mut Steps<L>,
+) -> Result<BTreeMap<GroupKey, Group>, NoMemory>
+    ensures groups { IfOk result (λ m. m.entries ≡ growing.put_all grouping.now (growing.first_groups grouping.now) (still_passing conditions.now merge.old)) }
+    ensures counted { OnOk result (steps.new ≡ steps.old + merge.old.unread) }
+    ensures within { steps.new ≤ steps.old + merge.old.unread }
+{
+    let mut all = grouping.begin(alloc)?;
+    'rows: while next_passing(merge, conditions, steps) {
+        grouping.put(alloc, &mut all, merge.present())?;
+    }
+    Ok(all)
+}
+
+// The rows of the answer of a reading that is not begun.
+fn output_rows_in<'a, R: SortedRows, L: Ledger>(
+    alloc: Global,
+    base: &Shape,
+    index: &Shape,
+    query: &Query,
+    list: &[Item],
+    conditions: &[Condition],
+    merge: &mut Merge<'a, R>,
+    steps: &mut Steps<L>,
+) -> Result<Vec<Row>, NoMemory>
+    requires { list.now ≡ items_of base.now query.now }
+    ensures rows { IfOk result (λ v. v.items ≡ output_rows_of base.now index.now query.now (still_passing conditions.now merge.old)) }
+    ensures counted { OnOk result (steps.new ≡ steps.old + merge.old.unread) }
+    ensures within { steps.new ≤ steps.old + merge.old.unread }
+{
+    if is_grouped(base, query, list) {
+        let grouping = Grouping::new(alloc, index, query.group.as_slice(), list)?;
+        let all = groups_in(alloc, &grouping, conditions, merge, steps)?;
+        return rows_of(alloc, all);
+    }
+    let places = plain_places(alloc, index, list)?;
+    plain_rows(alloc, places.as_slice(), conditions, merge, steps)
+}
+
+// The rows of the answer over the fold of stored lists.
+pub fn output_rows<R: SortedRows, L: Ledger>(
+    alloc: Global,
+    base: &Shape,
+    index: &Shape,
+    lists: &[R],
+    query: &Query,
+    list: &[Item],
+    steps: &mut Steps<L>,
+) -> Result<Vec<Row>, NoMemory>
+    requires sorted { AreSortedLists index.now (map (λ l. R.rows l) lists.now) }
+    requires list { list.now ≡ items_of base.now query.now }
+    ensures rows { IfOk result (λ v. v.items ≡ groups.output_rows base.now index.now query.now (fold_of index.now (joined (map (λ l. R.rows l) lists.now)))) }
+    ensures counted { OnOk result (steps.new ≡ steps.old + stored (map (λ l. R.rows l) lists.now)) }
+    ensures within { steps.new ≤ steps.old + stored (map (λ l. R.rows l) lists.now) }
+{
+    let conditions = conditions_of(alloc, base, index, query.filters.as_slice())?;
+    let mut merge = Merge::open(alloc, index, lists)?;
+    output_rows_in(
+        alloc,
+        base,
+        index,
+        query,
+        list,
+        conditions.as_slice(),
+        &mut merge,
+        steps,
+    )
+}
