@@ -5,6 +5,6 @@ pub mod Joins
 mod KeptRows
 mod KeyTests
 pub mod Neighbours
-mod OrderLaws
+pub mod OrderLaws
 mod Served
 mod ServedItems

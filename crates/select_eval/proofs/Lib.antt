@@ -5,4 +5,6 @@ pub mod KeyOrder
 pub mod GroupCells
 pub mod GroupEntries
 pub mod GroupLaws
+pub mod FirstRows
+pub mod ShownLaws
 pub mod Refused

@@ -4,3 +4,4 @@ pub mod Passing
 pub mod Outputs
 pub mod Grouping
 pub mod Groupings
+pub mod Shown

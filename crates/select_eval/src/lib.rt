@@ -5,6 +5,7 @@ mod asked;
 mod cells;
 mod condition;
 mod conditions;
+mod first_rows;
 mod group;
 mod group_key;
 mod grouping;

@@ -1,5 +1,6 @@
-// The rows of an answer over stored lists, before they are ordered: one for each row that passes, or for each group of them.
-ghost use Rattle.std.specs.Prelude.{◌≡◌, ◌+◌, ◌≤◌, IfOk, OnOk, map};
+// The rows of an answer over stored lists, before they are ordered: one for each row that passes, as far as it may be shown, or for
+// each group of them.
+ghost use Rattle.std.specs.Prelude.{◌≡◌, ◌*◌, ◌+◌, ◌≤◌, IfOk, IfSome, OnOk, length, map};
 ghost use Rattle.merge_read.specs.Lists.{AreSortedLists, joined, stored};
 ghost use Rattle.merge_read.specs.Merged.{row_of};
 ghost use Rattle.schema_models.specs.Folds.{fold_of};
@@ -9,10 +10,12 @@ ghost use Rattle.select_eval.specs.Grouping as growing;
 ghost use Rattle.select_eval.specs.Groupings.{output_rows_of};
 ghost use Rattle.select_eval.specs.Outputs as outputs;
 ghost use Rattle.select_eval.specs.Passing.{still_passing};
+ghost use Rattle.select_eval.specs.Shown.{shown};
 
 use crate::cells::copy_at;
 use crate::condition::Condition;
 use crate::conditions::conditions_of;
+use crate::first_rows::trim;
 use crate::group::Group;
 use crate::group_key::GroupKey;
 use crate::grouping::{Grouping, rows_of};
@@ -58,21 +61,26 @@ fn plain_row(alloc: Global, places: &[Option<usize>], row: &[MergedCell]) -> Res
     Ok(out)
 }
 
-// The rows still to come of a reading that pass, each as its cells at these places.
+// The rows still to come of a reading that pass, each as its cells at these places; beneath a limit only the first of them are
+// kept.
 fn plain_rows<'a, R: SortedRows, L: Ledger>(
     alloc: Global,
+    query: &Query,
+    list: &[Item],
     places: &[Option<usize>],
     conditions: &[Condition],
     merge: &mut Merge<'a, R>,
     steps: &mut Steps<L>,
 ) -> Result<Vec<Row>, NoMemory>
-    ensures rows { IfOk result (λ v. v.items ≡ map (outputs.cells_in places.now) (still_passing conditions.now merge.old)) }
+    ensures rows { IfOk result (λ v. shown list.now query.now v.items ≡ shown list.now query.now (map (outputs.cells_in places.now) (still_passing conditions.now merge.old))) }
+    ensures few { IfOk result (λ v. IfSome query.now.limit (λ n. length v.items ≤ 2 * n + 16)) }
     ensures counted { OnOk result (steps.new ≡ steps.old + merge.old.unread) }
     ensures within { steps.new ≤ steps.old + merge.old.unread }
 {
     let mut all = Vec::new(alloc);
     'rows: while next_passing(merge, conditions, steps) {
         all.push(plain_row(alloc, places, merge.present())?)?;
+        trim(list, query, &mut all)?;
     }
     Ok(all)
 }
@@ -96,7 +104,7 @@ fn groups_in<'a, R: SortedRows, L: Ledger>(
     Ok(all)
 }
 
-// The rows of the answer of a reading that is not begun.
+// Rows of which the answer of a reading that is not begun shows what it shows of all.
 fn output_rows_in<'a, R: SortedRows, L: Ledger>(
     alloc: Global,
     base: &Shape,
@@ -108,7 +116,7 @@ fn output_rows_in<'a, R: SortedRows, L: Ledger>(
     steps: &mut Steps<L>,
 ) -> Result<Vec<Row>, NoMemory>
     requires { list.now ≡ items_of base.now query.now }
-    ensures rows { IfOk result (λ v. v.items ≡ output_rows_of base.now index.now query.now (still_passing conditions.now merge.old)) }
+    ensures rows { IfOk result (λ v. shown list.now query.now v.items ≡ shown list.now query.now (output_rows_of base.now index.now query.now (still_passing conditions.now merge.old))) }
     ensures counted { OnOk result (steps.new ≡ steps.old + merge.old.unread) }
     ensures within { steps.new ≤ steps.old + merge.old.unread }
 {
@@ -118,10 +126,18 @@ fn output_rows_in<'a, R: SortedRows, L: Ledger>(
         return rows_of(alloc, all);
     }
     let places = plain_places(alloc, index, list)?;
-    plain_rows(alloc, places.as_slice(), conditions, merge, steps)
+    plain_rows(
+        alloc,
+        query,
+        list,
+        places.as_slice(),
+        conditions,
+        merge,
+        steps,
+    )
 }
 
-// The rows of the answer over the fold of stored lists.
+// Rows of which the answer over the fold of stored lists shows what it shows of all.
 pub fn output_rows<R: SortedRows, L: Ledger>(
     alloc: Global,
     base: &Shape,
@@ -133,7 +149,7 @@ pub fn output_rows<R: SortedRows, L: Ledger>(
 ) -> Result<Vec<Row>, NoMemory>
     requires sorted { AreSortedLists index.now (map (λ l. R.rows l) lists.now) }
     requires list { list.now ≡ items_of base.now query.now }
-    ensures rows { IfOk result (λ v. v.items ≡ groups.output_rows base.now index.now query.now (fold_of index.now (joined (map (λ l. R.rows l) lists.now)))) }
+    ensures rows { IfOk result (λ v. shown list.now query.now v.items ≡ shown list.now query.now (groups.output_rows base.now index.now query.now (fold_of index.now (joined (map (λ l. R.rows l) lists.now))))) }
     ensures counted { OnOk result (steps.new ≡ steps.old + stored (map (λ l. R.rows l) lists.now)) }
     ensures within { steps.new ≤ steps.old + stored (map (λ l. R.rows l) lists.now) }
 {

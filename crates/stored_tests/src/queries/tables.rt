@@ -91,6 +91,36 @@ const EMPTY: &[(&str, &str)] = &[
     ("SELECT COUNT(*) FROM t LIMIT 0", "count(*) BIGINT;"),
 ];
 
+// Two lists of 24 and of 21 rows: k and 100 - k for k from 1 to 24, and k and k for k from 11 to 31. Beneath a limit more rows
+// pass than are kept.
+const MANY_ROWS: &[&str] = &[
+    "1,99\n2,98\n3,97\n4,96\n5,95\n6,94\n7,93\n8,92\n9,91\n10,90\n11,89\n12,88\n13,87\n14,86\n15,85\n16,84\n17,83\n18,82\n19,81\n20,80\n21,79\n22,78\n23,77\n24,76",
+    "11,11\n12,12\n13,13\n14,14\n15,15\n16,16\n17,17\n18,18\n19,19\n20,20\n21,21\n22,22\n23,23\n24,24\n25,25\n26,26\n27,27\n28,28\n29,29\n30,30\n31,31",
+];
+
+const LIMITED: &[(&str, &str)] = &[
+    ("SELECT * FROM t LIMIT 1", "k INT,v BIGINT;1,99;"),
+    ("SELECT * FROM t LIMIT 0", "k INT,v BIGINT;"),
+    (
+        "SELECT k FROM t ORDER BY k DESC LIMIT 4",
+        "k INT;31;30;29;28;",
+    ),
+    (
+        "SELECT * FROM t ORDER BY v LIMIT 3",
+        "k INT,v BIGINT;11,11;12,12;13,13;",
+    ),
+    (
+        "SELECT * FROM t WHERE k > 10 ORDER BY 2 DESC LIMIT 2",
+        "k INT,v BIGINT;11,89;12,88;",
+    ),
+    ("SELECT k FROM t WHERE k >= 11 LIMIT 3", "k INT;11;11;12;"),
+    ("SELECT COUNT(*) FROM t LIMIT 1", "count(*) BIGINT;45;"),
+    (
+        "SELECT k, SUM(v) FROM t GROUP BY k ORDER BY k DESC LIMIT 2",
+        "k INT,sum(v) BIGINT;31,31;30,30;",
+    ),
+];
+
 const CASES: &[Case] = &[
     Case {
         model: Model::Duplicate,
@@ -126,6 +156,13 @@ const CASES: &[Case] = &[
         lists: &["", ""],
         queries: EMPTY,
         looks: 0,
+    },
+    Case {
+        model: Model::Duplicate,
+        role: Role::Plain,
+        lists: MANY_ROWS,
+        queries: LIMITED,
+        looks: 45,
     },
     Case {
         model: Model::Unique,
