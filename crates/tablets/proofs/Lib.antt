@@ -6,3 +6,5 @@ pub mod Changes
 pub mod Switch
 pub mod Steps
 pub mod Loops
+pub mod Among
+pub mod Past

@@ -1,5 +1,5 @@
 // Finding a tablet: its index by number among the few indexes of a table, and then by partition and bucket.
-ghost use Rattle.std.specs.Prelude.{◌≡◌, Some, IsSome, slice_get};
+ghost use Rattle.std.specs.Prelude.{◌≡◌, Some, IsSome, option_copied, slice_get};
 ghost use Rattle.std.specs.Borrow.{sem};
 ghost use Rattle.tablets.specs.SetView.{index_at, is_numbered, tablet_of};
 ghost use Rattle.tablets.specs.Shadows.{AreApart, marks_of, numbers};
@@ -28,4 +28,20 @@ pub fn tablet(indexes: &[Index], index: u64, part: u64, bucket: u64) -> &Tablet
     let index = &indexes[place_of(indexes, index)];
     let part = &index.parts[part as usize];
     &part.tablets[bucket as usize]
+}
+
+// The index of a number, where there is one.
+fn find_index(indexes: &[Index], number: u64) -> Option<&Index>
+    ensures { option_copied result ≡ index_at number indexes.now }
+{
+    indexes.iter().find(|index| index.number == number)
+}
+
+// A tablet, where it is there.
+pub fn find_tablet(indexes: &[Index], index: u64, part: u64, bucket: u64) -> Option<&Tablet>
+    ensures { option_copied result ≡ tablet_of index part bucket indexes.now }
+{
+    let index = find_index(indexes, index)?;
+    let part = index.parts.get(part as usize)?;
+    part.tablets.get(bucket as usize)
 }

@@ -75,6 +75,16 @@ impl Index {
         }
     }
 
+    // Whether it is a shadow that is to replace the index of a number.
+    pub fn aims_at(&self, number: u64) -> bool
+        ensures { result ≡ shadows.is_number number (shadows.aim self.now.shadow) }
+    {
+        match self.shadow {
+            None => false,
+            Some(shadow) => shadow.replaces == Some(number),
+        }
+    }
+
     // The number whose place a shadow of a job is to take.
     pub fn aim_of(&self, job: u64) -> Option<u64>
         ensures { result ≡ shadows.aim_of job self.now }

@@ -1,6 +1,7 @@
 //! The rowsets of tablets, by version.
 #![tactic(auto)]
 
+mod coming;
 mod compaction;
 mod finding;
 mod gone;

@@ -1,5 +1,5 @@
 // The rowsets of one index, partition and bucket.
-ghost use Rattle.std.specs.Prelude.{◌≡◌, ◌+◌, ◌<◌, ◌≤◌, ◌∷◌, [], true, false, IfOk, MatchOption, OnErr, OnOk, length, map};
+ghost use Rattle.std.specs.Prelude.{◌≡◌, ◌↔◌, ◌+◌, ◌<◌, ◌≤◌, ◌∷◌, [], true, false, IfOk, IsTrue, MatchOption, OnErr, OnOk, length, map};
 ghost use Rattle.std.specs.Vec.{vec_capacity};
 ghost use Rattle.merge_read.specs.Lists.{stored};
 ghost use Rattle.rowsets.specs.RowsetView.{IsListOf, IsMadeFor};
@@ -55,6 +55,23 @@ impl Tablet {
         ensures { tablets.IsTablet self.now }
     {
         let _lists = &self.lists;
+    }
+
+    /// Whether a version is above all that it has.
+    pub fn is_past(&self, version: u64) -> bool
+        ensures { IsTrue result ↔ tablets.IsPast version self.now.lists }
+    {
+        match self.lists.last() {
+            None => true,
+            Some(list) => list.last < version,
+        }
+    }
+
+    /// Whether a rowset was built with a shape that has the marks of its own. Looks at no row.
+    pub fn is_shape_of(&self, rowset: &Rowset) -> bool
+        ensures { IsTrue result ↔ IsMadeFor self.now.shape rowset.now }
+    {
+        rowset.is_of(&self.shape)
     }
 
     /// Makes room for this many rowsets more.

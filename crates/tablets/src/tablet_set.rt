@@ -1,5 +1,5 @@
 // The tablets of one table, by index, partition and bucket.
-ghost use Rattle.std.specs.Prelude.{◌≡◌, ◌+◌, ◌<◌, ◌≤◌, ◌∷◌, [], None, true, false, IfOk, MatchOption, OnErr, OnOk, length, map};
+ghost use Rattle.std.specs.Prelude.{◌≡◌, ◌↔◌, ◌+◌, ◌<◌, ◌≤◌, ◌∷◌, [], None, true, false, IfOk, IsTrue, MatchOption, OnErr, OnOk, is_some, length, map};
 ghost use Rattle.merge_read.specs.Lists.{stored};
 ghost use Rattle.rowsets.specs.RowsetView.{IsMadeFor};
 ghost use Rattle.tablets.specs.Compactions as compactions;
@@ -7,7 +7,8 @@ ghost use Rattle.tablets.specs.SetView as sets;
 ghost use Rattle.tablets.specs.Shadows as shadows;
 ghost use Rattle.tablets.specs.TabletView as tablets;
 
-use crate::finding::{place_of, tablet};
+use crate::coming::may_come;
+use crate::finding::{find_tablet, place_of, tablet};
 use crate::index::Index;
 use crate::parting::{add_parts, cut_parts};
 use crate::switching::{drop_shadows, switch_shadows};
@@ -56,6 +57,29 @@ impl TabletSet {
             parts,
             buckets,
         })
+    }
+
+    /// Whether there is a tablet of this index, partition and bucket.
+    pub fn has(&self, index: u64, part: u64, bucket: u64) -> bool
+        ensures { result ≡ is_some (sets.tablet_at self.now index part bucket) }
+    {
+        find_tablet(&self.indexes, index, part, bucket).is_some()
+    }
+
+    /// Whether a version is above all that a tablet has.
+    pub fn is_past(&self, index: u64, part: u64, bucket: u64, version: u64) -> bool
+        requires { sets.HasTablet self.now index part bucket }
+        ensures { sets.OnTablet self.now index part bucket (λ t. IsTrue result ↔ tablets.IsPast version t.lists) }
+    {
+        tablet(&self.indexes, index, part, bucket).is_past(version)
+    }
+
+    /// Whether a rowset was built with a shape that has the marks of a tablet's. Looks at no row.
+    pub fn is_shape_of(&self, index: u64, part: u64, bucket: u64, rowset: &Rowset) -> bool
+        requires { sets.HasTablet self.now index part bucket }
+        ensures { sets.OnTablet self.now index part bucket (λ t. IsTrue result ↔ IsMadeFor t.shape rowset.now) }
+    {
+        tablet(&self.indexes, index, part, bucket).is_shape_of(rowset)
     }
 
     /// Makes room in a tablet for this many rowsets more.
@@ -195,6 +219,14 @@ impl TabletSet {
                 Err(e)
             }
         }
+    }
+
+    /// Whether a shadow may come: under a number that no index has, and for no index, or for one that is no shadow and
+    /// that no other is to replace.
+    pub fn may_come(&self, index: u64, replaces: Option<u64>) -> bool
+        ensures { IsTrue result ↔ shadows.MayCome self.now index replaces }
+    {
+        may_come(&self.indexes, index, replaces)
     }
 
     /// One index more, a shadow of a job, its tablets empty.

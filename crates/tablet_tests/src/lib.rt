@@ -1,0 +1,5 @@
+//! Tests of the tablets of a table.
+#![tactic(auto)]
+
+#[cfg(test)]
+mod calls;

@@ -1,0 +1,11 @@
+use Rattle.std.proofs.Common.{rules, tests, nat_eq, ◌∙◌}
+use Rattle.std.proofs.lemmas.Iterator.{YieldsList-from_slice}
+use Rattle.std.proofs.lemmas.Iterator.Search.{any_from_yields_List}
+use Rattle.tablets.specs.SetView.{IndexView}
+use Rattle.tablets.proofs.Among.{any_number}
+use Rattle.tablets.proofs.coming.has_number.Goals as goal
+
+pub returns : goal.returns
+returns c =
+    any_from_yields_List (λ (i : IndexView). nat_eq i.number c.args.number) _ _ _ c.any.ensures.ran (YieldsList-from_slice c.args.indexes.now cc) (λ x b q k. search (rules, tests))
+    ∙ any_number c.args.number c.args.indexes.now
