@@ -1,0 +1,5 @@
+//! Tests of zones, over the public surface of `zones`.
+#![tactic(auto)]
+
+#[cfg(test)]
+mod tables;
