@@ -1,5 +1,5 @@
 -- No cell is below the least of cells, and none above the greatest.
-use Rattle.std.proofs.Common.{◌≡◌, List, [], ◌∷◌, Bool, true, false, cond, fold, refl, sym, ap, ◌∙◌}
+use Rattle.std.proofs.Common.{◌≡◌, List, [], ◌∷◌, Bool, true, false, cond, fold, refl, ap, ◌∙◌}
 use Rattle.std.proofs.lemmas.Cmp.{tied_itself}
 use Rattle.std.specs.List.{AllByRecursion}
 use Rattle.std.specs.Ordering.{is_gt, is_lt}
@@ -9,7 +9,7 @@ use Rattle.dl_values.specs.Order.{cell_cmp}
 use Rattle.dl_values.specs.OrderLemmas.{cells_total}
 use Rattle.dl_values.specs.declared.cell.Cell.{Cell}
 use Rattle.dl_values.specs.declared.cell.Cell.TheVariants as cell
-use Rattle.zones.specs.Ends.{AreEnds, EndsView, Holds, ends_of, first_or, greatest_of, higher, least_of, lower}
+use Rattle.zones.specs.Ends.{AreEnds, ends_of, first_or, higher, lower}
 use Rattle.zones.proofs.Bounds.{down_to_down_to, greater_less, less_greater, up_to_up_to}
 
 abbrev UpTo : Cell → Cell → Type 0

@@ -1,5 +1,5 @@
 -- The least and the greatest of cells, and the tests that a cell between them may pass (this project's own).
-use Rattle.std.specs.Prelude.{◌≡◌, Bool, true, false, cond, not, ◌&&◌, ◌||◌, List, [], ◌∷◌}
+use Rattle.std.specs.Prelude.{◌≡◌, Bool, false, cond, not, ◌&&◌, ◌||◌, List, [], ◌∷◌}
 use Rattle.std.specs.List.{AllByRecursion, fold}
 use Rattle.std.specs.Ordering.{is_eq, is_gt, is_lt}
 use Rattle.std.specs.declared.cmp.Ordering.{Ordering}
@@ -21,14 +21,14 @@ abbrev pub higher : Cell → Cell → Cell
 higher a x = cond (is_gt (cell_cmp x a)) x a
 
 abbrev pub first_or : List Cell → Cell → Cell
-first_or [] null = null
-first_or (x ∷ xs) null = x
+first_or [] other = other
+first_or (x ∷ xs) other = x
 
 abbrev pub least_of : List Cell → Cell → Cell
-least_of cells null = fold lower (first_or cells null) cells
+least_of cells other = fold lower (first_or cells other) cells
 
 abbrev pub greatest_of : List Cell → Cell → Cell
-greatest_of cells null = fold higher (first_or cells null) cells
+greatest_of cells other = fold higher (first_or cells other) cells
 
 -- of no cells both are null
 abbrev pub ends_of : List Cell → EndsView
