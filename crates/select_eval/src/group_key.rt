@@ -1,5 +1,5 @@
 // The cells by which rows are grouped.
-ghost use Rattle.std.specs.Prelude.{◌≡◌, IfOk};
+ghost use Rattle.std.specs.Prelude.{◌≡◌, [], IfOk};
 ghost use Rattle.std.proofs.Common.{refl};
 ghost use Rattle.std.specs.Cmp.{eq_by_cmp_equiv, partial_equiv_from_equiv, partial_order_from_total};
 ghost use Rattle.std.specs.Ordering.{as_partial_cmp, eq_by_cmp};
@@ -7,7 +7,7 @@ ghost use Rattle.merge_read.specs.Merged.{row_of};
 ghost use Rattle.select_eval.specs.Outputs.{cells_in};
 
 use crate::cells::copy_at;
-use dl_values::{Cell, NoMemory, Row, RowView, compare_slices};
+use dl_values::{Cell, NoMemory, RowView, compare_slices, copy_cell};
 use merge_read::MergedCell;
 use row_fold::prefix_of_view;
 use std::alloc::Global;
@@ -18,7 +18,7 @@ use std::marker::Model;
 #[derive(Debug, Drop)]
 pub struct GroupKey {
     prefix: u64,
-    cells: Row,
+    cells: Vec<Cell>,
 }
 
 impl Model for GroupKey {
@@ -28,44 +28,64 @@ impl Model for GroupKey {
 
     ghost Value = { List Cell };
 
-    ghost view = { λ k. k.cells };
+    ghost view = { λ k. k.cells.items };
 
-    ghost invariant = { λ k. k.prefix ≡ row_prefix k.cells };
+    ghost invariant = { λ k. k.prefix ≡ row_prefix k.cells.items };
 }
 
 impl GroupKey {
     ghost use Rattle.dl_values.specs.Order.{row_cmp};
 
     // The key of cells.
-    pub fn new(cells: Row) -> GroupKey
-        ensures { result ≡ cells }
+    fn of_cells(cells: Vec<Cell>) -> GroupKey
+        ensures { result ≡ cells.items }
     {
         GroupKey {
-            prefix: prefix_of_view(&RowView::of_cells(cells.cells())),
+            prefix: prefix_of_view(&RowView::of_cells(cells.as_slice())),
             cells,
         }
     }
 
-    // The key of a row, whose cells stand at these places.
-    pub fn of_row(
+    // The key of no cells.
+    pub fn new(alloc: Global) -> GroupKey
+        ensures { result ≡ [] }
+    {
+        GroupKey::of_cells(Vec::new(alloc))
+    }
+
+    // The key of a row, whose cells stand at these places, in the room of this one.
+    pub fn refill(
+        self,
         alloc: Global,
         places: &[Option<usize>],
         row: &[MergedCell],
     ) -> Result<GroupKey, NoMemory>
         ensures { IfOk result (λ k. k ≡ cells_in places.now (row_of row.now)) }
     {
-        let mut cells = Row::with_room(alloc, places.len())?;
+        let mut cells = self.cells;
+        cells.clear();
         for place in places {
             cells.push(copy_at(alloc, row, *place)?)?;
         }
-        Ok(GroupKey::new(cells))
+        Ok(GroupKey::of_cells(cells))
+    }
+
+    // An equal key of its own.
+    pub fn copy(&self, alloc: Global) -> Result<GroupKey, NoMemory>
+        ensures { IfOk result (λ k. k ≡ self.now) }
+    {
+        let mut cells = Vec::with_capacity(alloc, self.cells.len())?;
+        for cell in &self.cells {
+            cells.push(copy_cell(alloc, cell)?)?;
+        }
+        Ok(GroupKey::of_cells(cells))
     }
 
     // Its cells.
     pub fn cells(&self) -> &[Cell]
         ensures { result.now ≡ self.now }
     {
-        self.cells.cells()
+        self.cells.as_slice()
     }
 
     // How two keys stand to each other. The numbers decide, but where they are the same number the cells do.
@@ -78,7 +98,7 @@ impl GroupKey {
         if other.prefix < self.prefix {
             return Ordering::Greater;
         }
-        compare_slices(self.cells.cells(), other.cells.cells())
+        compare_slices(self.cells.as_slice(), other.cells.as_slice())
     }
 }
 

@@ -47,7 +47,7 @@ fn one_group(alloc: Global, outputs: &[Output]) -> Result<BTreeMap<GroupKey, Gro
     ensures { IfOk result (λ m. m.entries ≡ ([], begun outputs.now []) ∷ []) }
 {
     let mut all = BTreeMap::new(alloc);
-    let key = GroupKey::new(Row::new(alloc));
+    let key = GroupKey::new(alloc);
     let group = Group::begin(alloc, outputs, key.cells())?;
     all.insert(key, group)?;
     Ok(all)
@@ -79,24 +79,25 @@ impl Grouping {
         }
     }
 
-    // Puts a row into the group of its key.
+    // Puts a row into the group of its key. The key is made in the room of another one, and given back.
     pub fn put(
         &self,
         alloc: Global,
         all: &mut BTreeMap<GroupKey, Group>,
+        room: GroupKey,
         row: &[MergedCell],
-    ) -> Result<(), NoMemory>
+    ) -> Result<GroupKey, NoMemory>
         ensures { OnOk result (all.new.entries ≡ groups.put self.now all.old.entries (row_of row.now)) }
     {
-        let key = GroupKey::of_row(alloc, self.places.as_slice(), row)?;
+        let key = room.refill(alloc, self.places.as_slice(), row)?;
         if let Some(group) = all.get_mut(&key) {
             group.add(alloc, self.outputs.as_slice(), row)?;
-            return Ok(());
+            return Ok(key);
         }
         let mut group = Group::begin(alloc, self.outputs.as_slice(), key.cells())?;
         group.add(alloc, self.outputs.as_slice(), row)?;
-        all.insert(key, group)?;
-        Ok(())
+        all.insert(key.copy(alloc)?, group)?;
+        Ok(key)
     }
 }
 

@@ -1,12 +1,15 @@
 // The select list of a query whose columns were looked up once, and what a row adds to a group.
 ghost use Rattle.std.specs.Prelude.{◌≡◌, ◌∷◌, [], IfOk, OnOk, map};
+ghost use Rattle.agg_functions.specs.Merge.{merged_cell};
+ghost use Rattle.dl_values.specs.declared.agg_kind.AggKind.TheVariants as merge;
+ghost use Rattle.dl_values.specs.declared.cell.Cell.TheVariants as cell;
 ghost use Rattle.merge_read.specs.Merged.{row_of};
 ghost use Rattle.select_defs.specs.Aggregates.{aggregate};
 ghost use Rattle.select_defs.specs.Laws.{joined};
 ghost use Rattle.select_eval.specs.Outputs as outputs;
 ghost use Rattle.select_eval.specs.Places.{cell_in};
 
-use crate::cells::{copy_at, copy_of_key, is_null_at};
+use crate::cells::{copy_at, copy_of_key, is_null_at, number_at};
 use agg_functions::merge_cells;
 use dl_values::{AggKind, Cell, Name, NoMemory};
 use merge_read::MergedCell;
@@ -65,23 +68,62 @@ fn of_none(function: AggFn) -> Cell
     }
 }
 
-// An aggregate with the cell of a row more.
-fn with_cell(
+// Adds a number to a sum or a count. The most frequent case takes no cell away.
+fn add_number(kept: &mut Cell, more: i64)
+    ensures { kept.new ≡ merged_cell merge.Sum kept.old (cell.Int more) }
+{
+    match &*kept {
+        Cell::Int(sum) => {
+            let sum = sum.wrapping_add(more);
+            *kept = Cell::Int(sum);
+        }
+        _ => {
+            let older = mem::replace(kept, Cell::Null);
+            *kept = merge_cells(AggKind::Sum, older, Cell::Int(more));
+        }
+    }
+}
+
+// Merges the cell of a row into a cell.
+fn merge_at(
     alloc: Global,
-    function: AggFn,
-    kept: Cell,
+    kind: AggKind,
+    kept: &mut Cell,
     row: &[MergedCell],
     place: Option<usize>,
-) -> Result<Cell, NoMemory>
-    ensures { IfOk result (λ c. c ≡ joined function kept (aggregate function (cell_in (row_of row.now) place ∷ []))) }
+) -> Result<(), NoMemory>
+    ensures { OnOk result (kept.new ≡ merged_cell kind kept.old (cell_in (row_of row.now) place)) }
+{
+    let newer = copy_at(alloc, row, place)?;
+    let older = mem::replace(kept, Cell::Null);
+    *kept = merge_cells(kind, older, newer);
+    Ok(())
+}
+
+// Puts the cell of a row into an aggregate.
+fn add_cell(
+    alloc: Global,
+    function: AggFn,
+    kept: &mut Cell,
+    row: &[MergedCell],
+    place: Option<usize>,
+) -> Result<(), NoMemory>
+    ensures { OnOk result (kept.new ≡ joined function kept.old (aggregate function (cell_in (row_of row.now) place ∷ []))) }
 {
     match function {
-        AggFn::Sum => Ok(merge_cells(AggKind::Sum, kept, copy_at(alloc, row, place)?)),
-        AggFn::Min => Ok(merge_cells(AggKind::Min, kept, copy_at(alloc, row, place)?)),
-        AggFn::Max => Ok(merge_cells(AggKind::Max, kept, copy_at(alloc, row, place)?)),
+        AggFn::Sum => match number_at(row, place) {
+            Some(more) => {
+                add_number(kept, more);
+                Ok(())
+            }
+            None => merge_at(alloc, AggKind::Sum, kept, row, place),
+        },
+        AggFn::Min => merge_at(alloc, AggKind::Min, kept, row, place),
+        AggFn::Max => merge_at(alloc, AggKind::Max, kept, row, place),
         AggFn::Count => {
             let one = if is_null_at(row, place) { 0 } else { 1 };
-            Ok(merge_cells(AggKind::Sum, kept, Cell::Int(one)))
+            add_number(kept, one);
+            Ok(())
         }
     }
 }
@@ -104,14 +146,9 @@ impl Output {
     {
         match self {
             Output::Key(_) => Ok(()),
-            Output::Agg(function, place) => {
-                let older = mem::replace(kept, Cell::Null);
-                *kept = with_cell(alloc, function, older, row, place)?;
-                Ok(())
-            }
+            Output::Agg(function, place) => add_cell(alloc, function, kept, row, place),
             Output::CountAll => {
-                let older = mem::replace(kept, Cell::Null);
-                *kept = merge_cells(AggKind::Sum, older, Cell::Int(1));
+                add_number(kept, 1);
                 Ok(())
             }
         }

@@ -98,8 +98,9 @@ fn groups_in<'a, R: SortedRows, L: Ledger>(
     ensures within { steps.new ≤ steps.old + merge.old.unread }
 {
     let mut all = grouping.begin(alloc)?;
+    let mut key = GroupKey::new(alloc);
     'rows: while next_passing(merge, conditions, steps) {
-        grouping.put(alloc, &mut all, merge.present())?;
+        key = grouping.put(alloc, &mut all, key, merge.present())?;
     }
     Ok(all)
 }

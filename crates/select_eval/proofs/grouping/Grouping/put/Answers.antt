@@ -24,4 +24,4 @@ returns c =
     c.in_default.ensures.value
     (c.in_ok-group.ensures ∙ ap₂ begun (c.as_slice-2.ensures.value ∙ ap (λ (z : Grouping). z.outputs) c.self.view_is) c.cells.ensures)
     (c.in_ok-add-2.ensures ∙ ap (λ os. grown os c.in_ok-group.group row) c.as_slice-3.ensures.value ∙ ap (λ (z : Grouping). grown z.outputs c.in_ok-group.group row) c.self.view_is)
-    (c.in_ok-insert.ensures.entries ∙ ap (λ m. insert_entry row_cmp m.entries c.in_ok-key.key c.add-2.new.self) c.get_mut.follows.holds-at-none)
+    (c.in_ok-insert.ensures.entries ∙ ap (λ k. insert_entry row_cmp c.get_mut.follows.lender-at-none.entries k c.add-2.new.self) c.in_ok-copy.ensures ∙ ap (λ m. insert_entry row_cmp m.entries c.in_ok-key.key c.add-2.new.self) c.get_mut.follows.holds-at-none)
