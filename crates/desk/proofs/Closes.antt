@@ -55,21 +55,21 @@ module _ {E N : Type 0} where
   joined_deep v (w ∷ ws) u (inr x) k i = inr (in_right k w.joined (gathered v ws).joined (joined_deep v ws u x k i))
 
   -- what the gathered seat knows, one of them did
-  left_knows : (u w : View E N) (n : List ℕ) (s : ℕ) → Knows (tag u) n s → Knows (tag (both u w)) n s
+  pub left_knows : (u w : View E N) (n : List ℕ) (s : ℕ) → Knows (tag u) n s → Knows (tag (both u w)) n s
   left_knows u w n s x = (
     x.0,
     ⊎_elim (λ (o : (u.name ≡ n) × (u.splits ≡ s)). inl o)
         (λ (i : In (mark n s) (tag u).joined). inr (inr (subst (In (mark n s)) (sym (map-append mark_of w.joined u.joined)) (in_right (mark n s) (map mark_of w.joined) (map mark_of u.joined) i)))) x.1,
   )
 
-  right_knows : (u w : View E N) → IsLive u → (n : List ℕ) (s : ℕ) → Knows (tag w) n s → Knows (tag (both u w)) n s
+  pub right_knows : (u w : View E N) → IsLive u → (n : List ℕ) (s : ℕ) → Knows (tag w) n s → Knows (tag (both u w)) n s
   right_knows u w live n s x = (
     fresh u live,
     ⊎_elim (λ (o : (w.name ≡ n) × (w.splits ≡ s)). inr (inl (λ i. mark (sym o.0 i) (sym o.1 i))))
         (λ (i : In (mark n s) (tag w).joined). inr (inr (subst (In (mark n s)) (sym (map-append mark_of w.joined u.joined)) (in_left (mark n s) (map mark_of w.joined) (map mark_of u.joined) i)))) x.1,
   )
 
-  both_know : (u w : View E N) → IsLive w → (n : List ℕ) (s : ℕ) → Knows (tag (both u w)) n s → Knows (tag u) n s ⊎ Knows (tag w) n s
+  pub both_know : (u w : View E N) → IsLive w → (n : List ℕ) (s : ℕ) → Knows (tag (both u w)) n s → Knows (tag u) n s ⊎ Knows (tag w) n s
   both_know u w live n s x = ⊎_elim
       (λ (o : (u.name ≡ n) × (u.splits ≡ s)). inl (x.0, inl o))
       (λ (i : In (mark n s) (tag (both u w)).joined). ⊎_elim

@@ -1,6 +1,6 @@
 mod Books
 mod Calls
-mod Closes
+pub mod Closes
 pub mod Everyone
 mod Joins
 mod Keeps
@@ -9,4 +9,4 @@ mod Naming
 mod Own
 mod Rosters
 mod Splits
-mod Views
+pub mod Views
