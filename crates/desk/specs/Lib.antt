@@ -1,0 +1,7 @@
+pub mod Books
+pub mod Closing
+pub mod History
+pub mod Names
+pub mod Rule
+pub mod Seats
+pub mod Turn
