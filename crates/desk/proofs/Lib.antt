@@ -1,3 +1,4 @@
+pub mod Back
 mod Books
 mod Calls
 pub mod Closes

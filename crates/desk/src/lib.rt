@@ -10,6 +10,7 @@ mod close;
 mod desk;
 mod engine;
 mod join;
+pub mod laws;
 mod open;
 mod rule;
 mod seat;

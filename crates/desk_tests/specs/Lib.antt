@@ -1,3 +1,3 @@
-pub mod Lacking
+pub mod Seats
 pub mod Standing
 pub mod Totals

@@ -2,7 +2,8 @@
 ghost use Rattle.std.specs.Prelude.{◌≡◌, IfOk};
 ghost use Rattle.desk.specs.Rule.{newcomer};
 ghost use Rattle.desk.specs.Seats.{view_of, opening_of, IsOf};
-ghost use Rattle.desk_tests.specs.Lacking.{AreThree, CameBack};
+ghost use Rattle.desk.specs.Lacking.{CameBack};
+ghost use Rattle.desk_tests.specs.Seats.{AreThree};
 
 use crate::total::Total;
 use desk::{Desk, OpenError, Seat};

@@ -2,6 +2,7 @@
 use crate::any::may_be_shared;
 use crate::ends::{opened, total_at_the_end, total_of_three};
 use crate::work::add;
+use desk::laws;
 use std::test::Fail;
 
 #[test]
@@ -45,5 +46,12 @@ fn an_engine_that_stands_for_nothing_is_taken_too(rt: HostRuntime) -> Result<(),
 fn a_desk_is_shared_and_a_seat_crosses(rt: HostRuntime) -> Result<(), Fail> {
     let (desk, seat) = opened(rt.alloc(), 0, true)?;
     may_be_shared(&desk, seat);
+    Ok(())
+}
+
+#[test]
+fn the_laws_of_seats_hold_at_any_type(_rt: HostRuntime) -> Result<(), Fail> {
+    laws::split_seats_are_all::<u64, u64>();
+    laws::seats_come_back::<u64, u64>();
     Ok(())
 }

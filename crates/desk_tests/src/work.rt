@@ -2,7 +2,8 @@
 ghost use Rattle.std.specs.Prelude.{◌≡◌, ◌<◌};
 ghost use Rattle.std.specs.Thread.{IsSync};
 ghost use Rattle.desk.specs.Seats.{view_of, IsOf};
-ghost use Rattle.desk_tests.specs.Lacking.{CameBack, IsSame};
+ghost use Rattle.desk.specs.Lacking.{CameBack};
+ghost use Rattle.desk_tests.specs.Seats.{IsSame};
 
 use crate::total::Total;
 use desk::{Desk, Seat};

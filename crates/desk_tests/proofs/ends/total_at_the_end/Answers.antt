@@ -1,7 +1,7 @@
 use Rattle.std.proofs.Common.{rules, ◌≡◌, [], ◌∷◌, map, sym, subst}
 use Rattle.desk.specs.Closing.{AreAll}
 use Rattle.desk.specs.Seats.{view_of}
-use Rattle.desk_tests.proofs.Back.{all_in_one}
+use Rattle.desk.proofs.Back.{all_in_one}
 use Rattle.desk_tests.proofs.ends.total_at_the_end.Goals as goal
 
 pub close-requires-clause-all : goal.close-requires-clause-all

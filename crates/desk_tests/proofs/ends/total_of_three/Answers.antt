@@ -1,7 +1,7 @@
 use Rattle.std.proofs.Common.{rules, ◌≡◌, [], ◌∷◌, map, sym, subst}
 use Rattle.desk.specs.Closing.{AreAll}
 use Rattle.desk.specs.Seats.{view_of}
-use Rattle.desk_tests.proofs.Back.{three_all}
+use Rattle.desk_tests.proofs.Three.{three_all}
 use Rattle.desk_tests.proofs.ends.total_of_three.Goals as goal
 
 pub close-requires-clause-all : goal.close-requires-clause-all

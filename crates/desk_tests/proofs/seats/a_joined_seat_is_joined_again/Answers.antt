@@ -1,7 +1,7 @@
 use Rattle.std.proofs.Common.{subst}
 use Rattle.desk.specs.Seats.{view_of}
-use Rattle.desk_tests.specs.Lacking.{CameBack}
-use Rattle.desk_tests.proofs.Back.{took_in, itself, stayed, back_again}
+use Rattle.desk.specs.Lacking.{CameBack}
+use Rattle.desk.proofs.Back.{took_in, itself, stayed, back_again}
 use Rattle.desk_tests.proofs.seats.a_joined_seat_is_joined_again.Goals as goal
 
 pub total_at_the_end-requires-clause-back : goal.total_at_the_end-requires-clause-back

@@ -1,5 +1,5 @@
 use Rattle.desk.specs.Seats.{view_of, IsOf}
-use Rattle.desk_tests.specs.Lacking.{IsSame}
+use Rattle.desk_tests.specs.Seats.{IsSame}
 use Rattle.desk_tests.proofs.work.adds.Given as goal
 
 abbrev pub invariant-loop : goal.invariant-loop

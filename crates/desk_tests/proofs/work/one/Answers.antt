@@ -1,4 +1,4 @@
-use Rattle.desk_tests.proofs.Back.{stayed}
+use Rattle.desk.proofs.Back.{stayed}
 use Rattle.desk_tests.proofs.work.one.Goals as goal
 
 pub returns-clause-back : goal.returns-clause-back

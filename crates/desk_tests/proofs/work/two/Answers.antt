@@ -1,4 +1,4 @@
-use Rattle.desk_tests.proofs.Back.{took_in}
+use Rattle.desk.proofs.Back.{took_in}
 use Rattle.desk_tests.proofs.work.two.Goals as goal
 
 pub returns-clause-back : goal.returns-clause-back

@@ -8,17 +8,6 @@ use Rattle.desk.specs.Rule.{tag}
 abbrev pub Lacks : {E N : Type 0} → List (List ℕ) → View E N → Type 0
 Lacks out v = (n : List ℕ) (s : ℕ) → Knows (tag v) n s → (i : ℕ) → suc i ≤ s → ((t : ℕ) × Knows (tag v) (n ++ i ∷ []) t) ⊎ In (n ++ i ∷ []) out
 
--- a seat that only made calls
-abbrev pub IsSame : {E N : Type 0} → View E N → View E N → Type 0
-IsSame v w = (w.start ≡ v.start) × (w.name ≡ v.name) × (w.splits ≡ v.splits) × (w.joined ≡ v.joined)
-
--- the first seat, one that was split off from it, and one that was split off from that
-abbrev pub AreThree : {E N : Type 0} → View E N → View E N → View E N → Type 0
-AreThree v a b =
-    (v.name ≡ []) × (v.splits ≡ 1) × (v.joined ≡ [])
-    × (a.name ≡ 0 ∷ []) × (a.splits ≡ 1) × (a.joined ≡ [])
-    × (b.name ≡ 0 ∷ 0 ∷ []) × (b.splits ≡ 0) × (b.joined ≡ [])
-
 -- a seat that made calls, split seats off and took them in again: it lacks what it lacked
 pub record CameBack {E N : Type 0} (v w : View E N) : Type 0 where
   pub name : w.name ≡ v.name
