@@ -1,5 +1,5 @@
 -- Columns by places that were looked up once, before any row (this project's own).
-use Rattle.std.specs.Prelude.{ℕ, List, slice_index_or, Option, Some, None}
+use Rattle.std.specs.Prelude.{ℕ, Bool, true, false, List, slice_index_or, Option, Some, None}
 use Rattle.std.specs.List.{position}
 use Rattle.std.specs.Str.{bytes_eq}
 use Rattle.dl_values.specs.declared.cell.Cell.{Cell}
@@ -15,3 +15,7 @@ place_of s name = position (λ (c : ColumnDef). bytes_eq c.name name) s.columns
 abbrev pub cell_in : List Cell → Option ℕ → Cell
 cell_in row None = cell.Null
 cell_in row (Some n) = slice_index_or row n cell.Null
+
+abbrev pub is_number : Cell → Bool
+is_number (cell.Int n) = true
+is_number _ = false

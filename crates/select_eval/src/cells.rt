@@ -1,5 +1,5 @@
 // Cells of merged rows.
-ghost use Rattle.std.specs.Prelude.{◌≡◌, IfOk, IfSome, MatchOption};
+ghost use Rattle.std.specs.Prelude.{◌≡◌, IfOk, MatchOption, false};
 ghost use Rattle.dl_values.specs.declared.cell.Cell.TheVariants as cell;
 ghost use Rattle.merge_read.specs.Merged.{cell_of, row_of};
 ghost use Rattle.select_defs.specs.Filters.{is_null};
@@ -32,12 +32,15 @@ pub fn is_null_at(row: &[MergedCell], place: Option<usize>) -> bool
 
 // The number in the cell of a row at a place, where it is one.
 pub fn number_at(row: &[MergedCell], place: Option<usize>) -> Option<i64>
-    ensures { IfSome result (λ n. at.cell_in (row_of row.now) place ≡ cell.Int n) }
+    ensures { MatchOption result (at.is_number (at.cell_in (row_of row.now) place) ≡ false) (λ n. at.cell_in (row_of row.now) place ≡ cell.Int n) }
 {
     match cell_at(row, place) {
-        Some(MergedCell::Kept(Cell::Int(number))) => Some(*number),
+        None => None,
         Some(MergedCell::Sum(sum)) => Some(sum),
-        _ => None,
+        Some(MergedCell::Kept(cell)) => match cell {
+            Cell::Int(number) => Some(*number),
+            Cell::Null | Cell::Day(_) | Cell::Text(_) => None,
+        },
     }
 }
 
