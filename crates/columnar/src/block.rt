@@ -1,5 +1,5 @@
 // One block: the cells of up to 1,024 rows, column after column.
-ghost use Rattle.std.specs.Prelude.{◌≡◌, ◌<◌, ◌≤◌, ◌+◌, ◌^◌, ◌++◌, [], length, take, drop, slice_index_or, IfOk, OnOk};
+ghost use Rattle.std.specs.Prelude.{◌≡◌, ◌<◌, ◌≤◌, ◌+◌, ◌^◌, ◌++◌, [], ◌∷◌, length, take, drop, slice_index_or, IfOk, OnOk};
 ghost use Rattle.std.specs.List.{AllByRecursion};
 ghost use Rattle.columnar.specs.Blocks.{column_of};
 
@@ -30,6 +30,19 @@ impl Model for Block {
     ghost invariant = { λ b. IsBlock b.width b.count b.cells.items };
 }
 
+// Adds a cell equal to this one. What takes no memory is put where it stays, and not made elsewhere first.
+fn push_cell(alloc: Global, cells: &mut Vec<Cell>, cell: &Cell) -> Result<(), NoMemory>
+    ensures { OnOk result (cells.new.items ≡ cells.old.items ++ cell.now ∷ []) }
+{
+    match cell {
+        Cell::Null => cells.push(Cell::Null)?,
+        Cell::Int(number) => cells.push(Cell::Int(*number))?,
+        Cell::Day(day) => cells.push(Cell::Day(*day))?,
+        Cell::Text(_) => cells.push(copy_cell(alloc, cell)?)?,
+    }
+    Ok(())
+}
+
 // Adds the cells of one column of rows that follow each other.
 fn add_column(
     alloc: Global,
@@ -46,7 +59,7 @@ fn add_column(
 {
     for i in 0..count {
         let row = rows.row(start + i);
-        cells.push(copy_cell(alloc, &row[column])?)?;
+        push_cell(alloc, cells, &row[column])?;
     }
     Ok(())
 }
