@@ -5,10 +5,11 @@ use Rattle.std.proofs.lemmas.List.{get_or_append_left, get_or-append-add, get_or
 use Rattle.std.proofs.lemmas.List.FromFn.{fill_by_all, length-map-range_with_len, get_or-map-range_with_len}
 use Rattle.std.specs.List.{AllByRecursion, flat_map, range_with_len}
 use Rattle.columnar.proofs.Lists.{all_get}
-use Rattle.columnar.specs.Blocks.{IsBlock, across, column_of}
+use Rattle.columnar.specs.Blocks.{IsBlock, across, column_of, zones_of}
 use Rattle.dl_values.specs.Views.{every}
 use Rattle.dl_values.specs.declared.cell.Cell.{Cell}
 use Rattle.dl_values.specs.declared.cell.Cell.TheVariants as cell
+use Rattle.zones.specs.Ends.{EndsView}
 
 -- one more row of a column
 pub column_more : (c start n : ℕ) (rows : List (List Cell)) → n < length (drop start rows) → column_of c (take (n + 1) (drop start rows)) ≡ column_of c (take n (drop start rows)) ++ get_or (get_or rows (start + n) []) c cell.Null ∷ []
@@ -70,10 +71,11 @@ columns_length from (suc n) block =
     sums : (a b c d : ℕ) → a ≡ c → d ≡ b → a + b ≡ d + c
     sums a b c d h k = omega arith
 
-pub block_is : (width count : ℕ) (block : List (List Cell)) (cells : List Cell) → cells ≡ columns 0 width block → length block ≡ count → 0 < count → IsBlock width count cells
-block_is width count block cells c e s = record {
+pub block_is : (width count : ℕ) (block : List (List Cell)) (cells : List Cell) (zones : List EndsView) → cells ≡ columns 0 width block → zones ≡ zones_of width block → length block ≡ count → 0 < count → AllByRecursion (λ r. width ≡ length r) block → IsBlock width count cells zones
+block_is width count block cells zones c z e s wide = record {
   some = s;
   whole = ap (λ k. width * k) (sym e) ∙ columns_length 0 width block ∙ sym (ap (λ (x : List Cell). length x) c);
+  zoned = z ∙ ap (λ (rows : List (List Cell)). zones_of width rows) (sym (ap (λ (x : List Cell). across width count x) c ∙ columns_are width count block e wide));
 }
 
 -- the row at a place of a block
@@ -83,8 +85,8 @@ length_across width count cells = length-map-range_with_len (λ at. every width 
 pub no_rest : (width count n : ℕ) → width * count ≡ n → n % count ≡ 0
 no_rest width count n e = ap (λ k. k % count) (sym e) ∙ mul-mod_left width count
 
-pub row_at : (width count at : ℕ) (cells : List Cell) → IsBlock width count cells → at < count → every (length cells / count) count at cells ≡ get_or (across width count cells) at []
-row_at width count at cells b l =
+pub row_at : (width count at : ℕ) (cells : List Cell) (zones : List EndsView) → IsBlock width count cells zones → at < count → every (length cells / count) count at cells ≡ get_or (across width count cells) at []
+row_at width count at cells zones b l =
     let w : length cells / count ≡ width = ap (λ k. k / count) (sym b.whole) ∙ mul-div_cancel width b.some in
     ap (λ k. every k count at cells) w ∙ sym (get_or-map-range_with_len (λ k. every width count k cells) 0 count at at [] l (omega arith))
 

@@ -7,6 +7,7 @@ use Rattle.dl_values.specs.Views.{every}
 use Rattle.dl_values.specs.declared.cell.Cell.{Cell}
 use Rattle.dl_values.specs.declared.cell.Cell.TheVariants as cell
 use Rattle.schema_models.specs.ShapeView.{ShapeView}
+use Rattle.zones.specs.Ends.{EndsView, ends_of}
 
 -- the cell of each row in a column
 abbrev pub column_of : ℕ → List (List Cell) → List Cell
@@ -16,10 +17,15 @@ column_of c rows = map (λ r. slice_index_or r c cell.Null) rows
 abbrev pub across : ℕ → ℕ → List Cell → List (List Cell)
 across width count cells = map (λ at. every width count at cells) (range_with_len 0 count)
 
--- the cells of a block are as many rows of as many cells
-pub record IsBlock (width count : ℕ) (cells : List Cell) : Type 0 where
+-- the least and the greatest cell of each column
+abbrev pub zones_of : ℕ → List (List Cell) → List EndsView
+zones_of width rows = map (λ c. ends_of (column_of c rows)) (range_with_len 0 width)
+
+-- the cells of a block are as many rows of as many cells, and its zones are those of its columns
+pub record IsBlock (width count : ℕ) (cells : List Cell) (zones : List EndsView) : Type 0 where
   pub some : 0 < count
   pub whole : width * count ≡ length cells
+  pub zoned : zones ≡ zones_of width (across width count cells)
 
 -- blocks one after the other
 abbrev pub all_rows : List (List (List Cell)) → List (List Cell)

@@ -11,9 +11,10 @@ use dl_values::{NoMemory, RowView, Rows};
 use schema_models::Shape;
 use std::alloc::Global;
 use std::sync::ledger::Ledger;
+use zones::{Test, Zones};
 
 /// Rows of a shape in their order, with the marks of the shape. They stand in blocks of 1,024 rows, the last with the rest,
-/// and in each block column after column. No other cell is kept.
+/// and in each block column after column, with the least and the greatest cell of each column. No other cell is kept.
 #[derive(Debug, Drop)]
 pub struct Blocks {
     marks: Marks,
@@ -84,18 +85,38 @@ impl Blocks {
         block.row(place % BLOCK_ROWS)
     }
 
-    /// The block of the row at a place.
-    pub fn block_of(&self, place: usize) -> usize
-        ensures { result ≡ place / 1024 }
-    {
-        place / BLOCK_ROWS
-    }
-
     /// Whether the shape that they were made for has the marks of this one. Takes no memory, and looks at no row.
     pub fn is_of(&self, shape: &Shape) -> bool
         ensures { IsTrue result ↔ (self.now.marks ≡ marks_of shape.now) }
     {
         self.marks.is_of(shape)
+    }
+}
+
+impl Zones for Blocks {
+    ghost use Rattle.columnar.specs.Finds.{block_finds};
+    ghost use Rattle.columnar.specs.Zones.{block_may, block_numbers};
+
+    ghost rows = { λ b. b.rows };
+
+    ghost blocks = { λ b. block_numbers b.rows };
+
+    ghost may = { λ b. block_may b.rows };
+
+    ghost finds = { λ b. block_finds b.rows };
+
+    fn block_of(&self, place: usize) -> usize {
+        place / BLOCK_ROWS
+    }
+
+    fn block_end(&self, place: usize) -> usize {
+        let start = place - place % BLOCK_ROWS;
+        start.saturating_add(BLOCK_ROWS).min(self.count)
+    }
+
+    fn block_may_match(&self, block: usize, test: &Test) -> bool {
+        let blocks = self.blocks.as_slice();
+        blocks[block].may_match(test)
     }
 }
 

@@ -13,6 +13,7 @@ use std::alloc::Global;
 use std::marker::Model;
 use std::sync::Arc;
 use std::sync::ledger::Ledger;
+use zones::{Test, Zones};
 
 /// The folded rows of one load in one tablet, with the marks of the shape by which they were folded (Apache Doris
 /// documentation, "Rowset"). It knows no version.
@@ -66,6 +67,32 @@ impl SortedRows for Rowset {
 
     fn row<L: Ledger>(&self, place: usize, steps: &mut Steps<L>) -> RowView<'_> {
         self.blocks.row(place, steps)
+    }
+}
+
+impl Zones for Rowset {
+    ghost use Rattle.columnar.specs.Finds.{block_finds};
+    ghost use Rattle.columnar.specs.Zones.{block_may, block_numbers};
+    ghost use Rattle.rowsets.specs.RowsetView.{rowset_rows};
+
+    ghost rows = { rowset_rows };
+
+    ghost blocks = { λ r. block_numbers (rowset_rows r) };
+
+    ghost may = { λ r. block_may (rowset_rows r) };
+
+    ghost finds = { λ r. block_finds (rowset_rows r) };
+
+    fn block_of(&self, place: usize) -> usize {
+        self.blocks.block_of(place)
+    }
+
+    fn block_end(&self, place: usize) -> usize {
+        self.blocks.block_end(place)
+    }
+
+    fn block_may_match(&self, block: usize, test: &Test) -> bool {
+        self.blocks.block_may_match(block, test)
     }
 }
 

@@ -12,6 +12,7 @@ use std::marker::Brand;
 use std::sync::Arc;
 use std::sync::ledger::{Blank, Ledger};
 use std::test::Fail;
+use zones::{Op, Test, Zones};
 
 // What the two columns of a shape have.
 #[derive(Clone, Copy)]
@@ -205,6 +206,25 @@ fn a_rowset_is_of_the_shapes_with_its_marks(rt: HostRuntime) -> Result<(), Fail>
     for (kinds, wanted) in table {
         let shape = shape(alloc, kinds)?.ok_or("no shape")?;
         assert_eq!(rt; rowset.is_of(&shape), wanted);
+    }
+    Ok(())
+}
+
+#[test]
+fn a_rowset_tells_which_of_its_blocks_may_match(rt: HostRuntime) -> Result<(), Fail> {
+    let alloc = rt.alloc();
+    let rowset = built(alloc, SUMS, &[(2, 1), (1, 5), (2, 7)])?.ok_or("no rowset")?;
+    if rowset.len() != 2 {
+        return Err("not two rows".into());
+    }
+    assert_eq!(rt; (rowset.block_of(1), rowset.block_end(0)), (0, 2));
+    for (column, literal, wanted) in [(0, 2, true), (0, 3, false), (1, 8, true), (1, 9, false)] {
+        let test = Test {
+            column,
+            op: Op::Eq,
+            literal: Cell::Int(literal),
+        };
+        assert_eq!(rt; rowset.block_may_match(rowset.block_of(0), &test), wanted);
     }
     Ok(())
 }

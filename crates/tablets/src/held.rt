@@ -10,6 +10,7 @@ use rowsets::Rowset;
 use std::marker::Model;
 use std::sync::Arc;
 use std::sync::ledger::Ledger;
+use zones::{Test, Zones};
 
 // A rowset with its first and its last version.
 #[derive(Debug, Drop)]
@@ -38,6 +39,32 @@ impl SortedRows for Held {
 
     fn row<L: Ledger>(&self, place: usize, steps: &mut Steps<L>) -> RowView<'_> {
         self.rowset.row(place, steps)
+    }
+}
+
+impl Zones for Held {
+    ghost use Rattle.columnar.specs.Finds.{block_finds};
+    ghost use Rattle.columnar.specs.Zones.{block_may, block_numbers};
+    ghost use Rattle.tablets.specs.TabletView.{list_rows};
+
+    ghost rows = { list_rows };
+
+    ghost blocks = { λ h. block_numbers (list_rows h) };
+
+    ghost may = { λ h. block_may (list_rows h) };
+
+    ghost finds = { λ h. block_finds (list_rows h) };
+
+    fn block_of(&self, place: usize) -> usize {
+        self.rowset.block_of(place)
+    }
+
+    fn block_end(&self, place: usize) -> usize {
+        self.rowset.block_end(place)
+    }
+
+    fn block_may_match(&self, block: usize, test: &Test) -> bool {
+        self.rowset.block_may_match(block, test)
     }
 }
 

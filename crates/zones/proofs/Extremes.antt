@@ -24,7 +24,7 @@ up_to_itself a = ap is_gt (tied_itself cells_total a)
 down_to_itself : (a : Cell) → DownTo a a
 down_to_itself a = ap is_lt (tied_itself cells_total a)
 
-not_up : (x a : Cell) → is_lt (cell_cmp x a) ≡ true → UpTo x a
+pub not_up : (x a : Cell) → is_lt (cell_cmp x a) ≡ true → UpTo x a
 not_up x a e = go (cell_cmp x a) e
   where
     go : (c : Ordering) → is_lt c ≡ true → is_gt c ≡ false
@@ -55,14 +55,14 @@ higher_both a x = go (is_gt (cell_cmp x a)) refl
     go true e = (not_down x a e, down_to_itself x)
     go false e = (down_to_itself a, less_greater cells_total a x ∙ e)
 
-least_up : (a : Cell) (xs : List Cell) → UpTo (fold lower a xs) a × AllByRecursion (UpTo (fold lower a xs)) xs
+pub least_up : (a : Cell) (xs : List Cell) → UpTo (fold lower a xs) a × AllByRecursion (UpTo (fold lower a xs)) xs
 least_up a [] = (up_to_itself a, tt)
 least_up a (x ∷ xs) =
     let rest = least_up (lower a x) xs in
     let m = fold lower (lower a x) xs in
     (up_to_up_to cells_total m (lower a x) a rest.0 (lower_both a x).0, (up_to_up_to cells_total m (lower a x) x rest.0 (lower_both a x).1, rest.1))
 
-greatest_down : (a : Cell) (xs : List Cell) → DownTo (fold higher a xs) a × AllByRecursion (DownTo (fold higher a xs)) xs
+pub greatest_down : (a : Cell) (xs : List Cell) → DownTo (fold higher a xs) a × AllByRecursion (DownTo (fold higher a xs)) xs
 greatest_down a [] = (down_to_itself a, tt)
 greatest_down a (x ∷ xs) =
     let rest = greatest_down (higher a x) xs in

@@ -1,3 +1,4 @@
 pub mod Bounds
 pub mod Extremes
+pub mod OnePass
 pub mod Between

@@ -1,5 +1,7 @@
 // The ends of cells.
 ghost use Rattle.std.specs.Prelude.{◌≡◌, IfOk};
+ghost use Rattle.std.specs.Ordering.{is_gt, is_lt};
+ghost use Rattle.dl_values.specs.Order.{cell_cmp};
 ghost use Rattle.zones.specs.Ends as ends;
 ghost use Rattle.zones.specs.Tests as tests;
 
@@ -33,30 +35,41 @@ fn first<'a>(cells: &'a [Cell], null: &'a Cell) -> &'a Cell
     }
 }
 
-// The least of cells.
-fn least<'a>(cells: &'a [Cell], null: &'a Cell) -> &'a Cell
-    ensures { result.now ≡ ends.least_of cells.now null.now }
+// Whether a cell is above another. Most are numbers, which are compared here.
+fn is_above(cell: &Cell, other: &Cell) -> bool
+    ensures { result ≡ is_gt (cell_cmp cell.now other.now) }
+{
+    match (cell, other) {
+        (Cell::Int(x), Cell::Int(y)) => x > y,
+        _ => compare_cells(cell, other).is_gt(),
+    }
+}
+
+// Whether a cell is below another.
+fn is_below(cell: &Cell, other: &Cell) -> bool
+    ensures { result ≡ is_lt (cell_cmp cell.now other.now) }
+{
+    match (cell, other) {
+        (Cell::Int(x), Cell::Int(y)) => x < y,
+        _ => compare_cells(cell, other).is_lt(),
+    }
+}
+
+// The least and the greatest of cells. What is above the greatest is not below the least, and is not compared with it.
+fn least_and_greatest<'a>(cells: &'a [Cell], null: &'a Cell) -> (&'a Cell, &'a Cell)
+    ensures least { result.0.now ≡ ends.least_of cells.now null.now }
+    ensures greatest { result.1.now ≡ ends.greatest_of cells.now null.now }
 {
     let mut least = first(cells, null);
+    let mut greatest = least;
     for cell in cells {
-        if compare_cells(cell, least).is_lt() {
+        if is_above(cell, greatest) {
+            greatest = cell;
+        } else if is_below(cell, least) {
             least = cell;
         }
     }
-    least
-}
-
-// The greatest of cells.
-fn greatest<'a>(cells: &'a [Cell], null: &'a Cell) -> &'a Cell
-    ensures { result.now ≡ ends.greatest_of cells.now null.now }
-{
-    let mut greatest = first(cells, null);
-    for cell in cells {
-        if compare_cells(cell, greatest).is_gt() {
-            greatest = cell;
-        }
-    }
-    greatest
+    (least, greatest)
 }
 
 // Whether a cell between two may stand to a literal as is asked, by how the least and the greatest do.
@@ -80,9 +93,10 @@ impl Zone {
         ensures { IfOk result (λ z. z ≡ ends.ends_of cells.now) }
     {
         let null = Cell::Null;
+        let (least, greatest) = least_and_greatest(cells, &null);
         Ok(Zone {
-            least: copy_cell(alloc, least(cells, &null))?,
-            greatest: copy_cell(alloc, greatest(cells, &null))?,
+            least: copy_cell(alloc, least)?,
+            greatest: copy_cell(alloc, greatest)?,
         })
     }
 

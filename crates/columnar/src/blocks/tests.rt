@@ -1,4 +1,4 @@
-// What rows by column keep: the marks of their shape, and the cells of their columns in blocks.
+// What rows by column keep: the marks of their shape, and in blocks the cells of their columns and the ends of each.
 use crate::block::Block;
 use crate::block::tests::parts;
 use crate::blocks::Blocks;
@@ -41,8 +41,8 @@ fn the_last_block_has_the_rest_and_no_other_cell_is_kept(rt: HostRuntime) -> Res
         assert_eq!(rt; count, *rows as usize);
         assert_eq!(rt; blocks.len(), wanted.len());
         for (block, size) in blocks.into_iter().zip(*wanted) {
-            let (width, count, cells) = parts(block);
-            assert_eq!(rt; (width, count), (2, *size));
+            let (width, count, cells, zones) = parts(block);
+            assert_eq!(rt; (width, count, zones), (2, *size, 2));
             assert_eq!(rt; Some(cells), size.checked_mul(2));
         }
     }

@@ -15,9 +15,10 @@ loop-i-preserved c =
     let more : c.loop-i.i < length (drop c.args.start rows) = simp length-drop (omega (arith, place)) in
     let row = c.row-row.result.now in
     let wide : column < length row = subst (λ (r : List Cell). column < length r) (sym c.row-row.ensures) (all_get (λ (r : List Cell). column < length r) (c.args.start + c.loop-i.i) rows [] place c.requires.wide) in
-    let read = get_or_read row column c.index-row-column.result wide c.index-row-column.is cell.Null in
-    let is = c.in_ok-copy_cell.ensures ∙ read ∙ ap (λ (r : List Cell). get_or r column cell.Null) c.row-row.ensures in
-    c.in_ok-push.ensures.items
-    ∙ ap (λ (l : List Cell). l ++ c.in_ok-copy_cell.field-0 ∷ []) c.loop-i.invariant
-    ∙ append_assoc c.args.cells.now.items (column_of column (take c.loop-i.i (drop c.args.start rows))) (c.in_ok-copy_cell.field-0 ∷ [])
+    let made = c.index-row-column.result in
+    let read = get_or_read row column made wide c.index-row-column.is cell.Null in
+    let is = read ∙ ap (λ (r : List Cell). get_or r column cell.Null) c.row-row.ensures in
+    c.in_ok-push_cell.ensures
+    ∙ ap (λ (l : List Cell). l ++ made ∷ []) c.loop-i.invariant
+    ∙ append_assoc c.args.cells.now.items (column_of column (take c.loop-i.i (drop c.args.start rows))) (made ∷ [])
     ∙ ap (λ (l : List Cell). c.args.cells.now.items ++ l) (ap (λ (x : Cell). column_of column (take c.loop-i.i (drop c.args.start rows)) ++ x ∷ []) is ∙ sym (column_more column c.args.start c.loop-i.i rows more))

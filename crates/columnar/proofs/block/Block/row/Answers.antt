@@ -17,5 +17,5 @@ returns c =
     let l : c.args.at < i.count = within i.width i.count c.args.at i.cells.items c.args.self.now c.self.view_is c.requires in
     c.across.ensures
     ∙ ap (λ (cells : List Cell). every (length cells / i.count) i.count c.args.at cells) c.as_slice.ensures.value
-    ∙ row_at i.width i.count c.args.at i.cells.items c.self.invariant l
+    ∙ row_at i.width i.count c.args.at i.cells.items i.zones.items c.self.invariant l
     ∙ ap (λ (rows : List (List Cell)). get_or rows c.args.at []) c.self.view_is
