@@ -1,5 +1,5 @@
 -- Comparing the first cells of two rows, cell by cell.
-use Rattle.std.proofs.Common.{◌≡◌, ℕ, zero, suc, ◌+◌, ◌<◌, ◌≤◌, ◌∙◌, List, [], ◌∷◌, length, min, take, drop, get_or, Bool, true, false, nat_lt, refl, ap, ap₂, sym, arith, length-drop, length-take}
+use Rattle.std.proofs.Common.{◌≡◌, ℕ, zero, suc, ◌+◌, ◌<◌, ◌≤◌, ◌∙◌, List, [], ◌∷◌, length, min, take, drop, get_or, Bool, true, false, nat_lt, refl, ap₂, sym, arith, length-drop, length-take}
 use Rattle.std.proofs.lemmas.List.{drop_more, get_or-take}
 use Rattle.std.proofs.lemmas.Bool.Decides.{nat_tests}
 use Rattle.std.specs.Ordering.{nat_cmp, ordering_reverse, ordering_then}

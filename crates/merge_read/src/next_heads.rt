@@ -1,6 +1,7 @@
 // Lists of rows that are read side by side: their heads.
 ghost use Rattle.std.specs.Prelude.{◌≡◌, ◌+◌, ◌<◌, ◌≤◌, ◌++◌, [], drop, length, map, option_to_list, IfNone, IfSome};
 ghost use Rattle.std.specs.BinaryHeap.{IsUpperBound};
+ghost use Rattle.std.specs.List.Sorted.{IsPermutation};
 ghost use Rattle.merge_read.specs.HeadOrder.{head_cmp};
 ghost use Rattle.merge_read.specs.Keys.{key_width};
 ghost use Rattle.merge_read.specs.Lists.{AreSortedLists};
@@ -34,6 +35,23 @@ fn load_head<'a, R: SortedRows, L: Ledger>(
     others.put(Head::new(row, width, list));
 }
 
+// Puts the first of other heads, where there is one, in the place of a head whose list has ended.
+#[inline(never)]
+fn next_list<'a>(first: &mut Head<'a>, others: &mut Heads<'a>) -> bool
+    ensures moved { IsPermutation others.old.items (option_to_list (head_if result first.new) ++ others.new.items) }
+    ensures first { IfSome (head_if result first.new) (λ x. IsUpperBound head_cmp x others.new.items) }
+    ensures none { IfNone (head_if result first.new) (others.new.items ≡ []) }
+    ensures room { others.old.room ≤ others.new.room }
+{
+    match others.take() {
+        None => false,
+        Some(head) => {
+            *first = head;
+            true
+        }
+    }
+}
+
 // Looks at the row of a list at a place, where it has one, and puts the first of all heads in the place of a head that was
 // taken. Where there is none it is false.
 pub fn next_first<'a, R: SortedRows, L: Ledger>(
@@ -58,13 +76,7 @@ pub fn next_first<'a, R: SortedRows, L: Ledger>(
         *first = others.first_of(Head::new(row, width, list));
         return true;
     }
-    match others.take() {
-        None => false,
-        Some(head) => {
-            *first = head;
-            true
-        }
-    }
+    next_list(first, others)
 }
 
 // Looks at the first row of each list.

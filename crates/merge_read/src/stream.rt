@@ -150,7 +150,15 @@ impl<'a, R: SortedRows> Stream<'a, R> {
         let _end = rows.len();
         let place = self.places[list] + 1;
         self.places[list] = place;
-        if !next_first(self.width, list, rows, place, first, &mut self.others, steps) {
+        if !next_first(
+            self.width,
+            list,
+            rows,
+            place,
+            first,
+            &mut self.others,
+            steps,
+        ) {
             self.first = None;
         }
     }

@@ -3,11 +3,10 @@ use Rattle.dl_values.specs.declared.cell.Cell.{Cell}
 use Rattle.schema_models.specs.Folds.{fold_of, key_of, merged_row}
 use Rattle.schema_models.specs.ShapeView.{ShapeView}
 use Rattle.schema_models.specs.declared.column_def.ColumnDef.{ColumnDef}
-use Rattle.schema_models.specs.declared.model.Model.TheVariants as model
 use Rattle.std.specs.declared.cmp.Ordering.TheVariants.{Equal}
 use Rattle.dl_values.specs.Order.{row_cmp}
 use Rattle.row_fold.specs.Prefix.{row_prefix}
-use Rattle.merge_read.proofs.RunLemmas.{IsRun, passed_less, run_ends, run_goes_on}
+use Rattle.merge_read.proofs.RunLemmas.{passed_less, run_ends, run_goes_on}
 use Rattle.merge_read.specs.HeadOrder.{head_key}
 use Rattle.merge_read.specs.Lists.{joined}
 use Rattle.merge_read.specs.Merged.{row_of}

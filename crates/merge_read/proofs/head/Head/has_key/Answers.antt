@@ -1,4 +1,4 @@
-use Rattle.std.proofs.Common.{◌≡◌, ℕ, nat_eq, true, arith}
+use Rattle.std.proofs.Common.{◌≡◌, ℕ, nat_eq, arith}
 use Rattle.std.proofs.lemmas.Bool.Decides.{nat_tests}
 use Rattle.std.specs.Bool.{IsTrue}
 use Rattle.merge_read.proofs.KeyLemmas.{other_key}
