@@ -12,6 +12,7 @@ use Rattle.schema_models.specs.ShapeView.{ShapeView}
 use Rattle.merge_read.proofs.Each.{all_get}
 use Rattle.merge_read.proofs.HeadLemmas.{Taken, due, head_of, heads_moved, heads_more, read_length, taken}
 use Rattle.merge_read.proofs.Least.{least, none_left}
+use Rattle.merge_read.proofs.RunLemmas.{passed_length}
 use Rattle.merge_read.proofs.Steps.{without_sorted}
 use Rattle.merge_read.specs.HeadOrder.{head_cmp}
 use Rattle.merge_read.specs.HeadsView.{HeadsView}
@@ -264,3 +265,12 @@ first_least s width lists places begun first h others view v i b f =
     let is : begun ≡ true = ap (λ (x : StreamView). x.begun) v ∙ b in
     let t : IsStream s width lists places true (Some h) others = subst (λ (x : Option Head). IsStream s width lists places true x others) f (begun_as s width lists places begun first others true is i) in
     subst (λ (x : StreamView). IsLeast x.shape x.rests h) v (is_passed s width lists places h others t)
+
+-- its row is whole
+pub first_length : (s : ShapeView) (width : ℕ) (lists : List RowList) (places : List ℕ) (begun : Bool) (first : Option Head) (h : Head) (others : HeadsView) (view : StreamView) → stream_view s begun lists places first ≡ view → IsStream s width lists places begun first others
+    → view.begun ≡ true → first ≡ Some h → length h.row ≡ length view.shape.columns
+first_length s width lists places begun first h others view v i b f =
+    let rests : List RowList = rests_of lists places in
+    let m : IsLeast view.shape view.rests h = first_least s width lists places begun first h others view v i b f in
+    let sorted : AreSortedLists view.shape view.rests = subst (λ (x : StreamView). AreSortedLists x.shape x.rests) v i.sorted in
+    passed_length view.shape view.rests (without h view.rests) h (record { sorted = sorted; least = m; rests = refl })

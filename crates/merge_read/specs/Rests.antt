@@ -1,5 +1,5 @@
 -- What is left of lists that are merged, and their heads.
-use Rattle.std.specs.Prelude.{◌≡◌, ◌+◌, ◌<◌, ◌≤◌, ℕ, zero, suc, Bool, false, cond, nat_eq, nat_lt, List, [], ◌∷◌, ◌++◌, length, drop, set, slice_index_or, Option, Some, None, IfSome, IfNone, option_to_list}
+use Rattle.std.specs.Prelude.{◌≡◌, ◌+◌, ◌<◌, ◌≤◌, ℕ, zero, suc, Bool, true, false, cond, nat_eq, nat_lt, List, [], ◌∷◌, ◌++◌, length, drop, set, slice_index_or, Option, Some, None, IfSome, IfNone, option_to_list}
 use Rattle.std.specs.BinaryHeap.{IsUpperBound}
 use Rattle.std.specs.List.{AllByRecursion}
 use Rattle.std.specs.List.Sorted.{IsPermutation}
@@ -39,6 +39,11 @@ pub record IsHead (s : ShapeView) (rests : List RowList) (h : Head) : Type 0 whe
   pub within : h.list < length rests
   pub key : key_of s h.row ≡ head_key h
   pub is : slice_index_or rests h.list [] ≡ h.row ∷ drop 1 (slice_index_or rests h.list [])
+
+-- a head, where there is one
+abbrev pub head_if : Bool → Head → Option Head
+head_if true h = Some h
+head_if false h = None
 
 -- how many of the heads are of a list
 abbrev pub heads_at : ℕ → List Head → ℕ

@@ -1,11 +1,12 @@
 // The next row of one list.
-ghost use Rattle.std.specs.Prelude.{◌≡◌, ◌<◌};
+ghost use Rattle.std.specs.Prelude.{◌≡◌, ◌↔◌, ◌<◌, IsTrue, take};
 ghost use Rattle.std.proofs.Common.{refl};
 ghost use Rattle.std.specs.Cmp.{eq_by_cmp_equiv, partial_equiv_from_equiv, partial_order_from_total};
 ghost use Rattle.std.specs.Ordering.{as_partial_cmp, eq_by_cmp};
 ghost use Rattle.row_fold.specs.Prefix.{row_prefix};
 
-use crate::keys::compare_keys;
+use crate::keys::{compare_keys, compare_made};
+use crate::merged_cell::MergedCell;
 use dl_values::RowView;
 use row_fold::prefix_of_view;
 use std::cmp::Ordering;
@@ -13,7 +14,7 @@ use std::cmp::Ordering;
 // The next row of a list, the number of its key, how many cells its key has, and the place of the list.
 #[derive(Debug, Drop)]
 pub struct Head<'a> {
-    prefix: u64,
+    pub prefix: u64,
     pub row: RowView<'a>,
     width: usize,
     pub list: usize,
@@ -22,8 +23,10 @@ pub struct Head<'a> {
 }
 
 impl<'a> Head<'a> {
+    ghost use Rattle.std.specs.declared.cmp.Ordering.TheVariants.{Equal};
     ghost use Rattle.dl_values.specs.Order.{row_cmp};
     ghost use Rattle.merge_read.specs.HeadOrder.{head_key};
+    ghost use Rattle.merge_read.specs.Merged.{row_of};
 
     pub fn new(row: RowView<'a>, width: usize, list: usize) -> Head<'a>
         requires { 0 < width }
@@ -50,6 +53,15 @@ impl<'a> Head<'a> {
             return Ordering::Greater;
         }
         compare_keys(&self.row, self.width, &other.row, other.width)
+    }
+
+    // Whether its key is that of a row that is being made, whose key has this many cells and this number.
+    pub fn has_key(&self, prefix: u64, cells: &[MergedCell], width: usize) -> bool
+        requires prefix { prefix ≡ row_prefix (take width (row_of cells.now)) }
+        requires some { 0 < width }
+        ensures { IsTrue result ↔ (row_cmp (take width (row_of cells.now)) (head_key self.now) ≡ Equal) }
+    {
+        prefix == self.prefix && compare_made(cells, width, &self.row, self.width).is_eq()
     }
 }
 

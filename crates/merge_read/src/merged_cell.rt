@@ -18,15 +18,21 @@ pub enum MergedCell<'a> {
     Sum(i64),
 }
 
+// How an old cell stands to a newer one.
+pub fn compare_merged(old: MergedCell, new: &Cell) -> Ordering
+    ensures { result ≡ cell_cmp (cell_of old.entry) new.now }
+{
+    match old {
+        MergedCell::Kept(cell) => compare_cells(cell, new),
+        MergedCell::Sum(sum) => compare_cells(&Cell::Int(sum), new),
+    }
+}
+
 // Whether an old cell is greater than a newer one.
 fn is_above(old: MergedCell, new: &Cell) -> bool
     ensures { result ≡ is_gt (cell_cmp (cell_of old.entry) new.now) }
 {
-    let order = match old {
-        MergedCell::Kept(cell) => compare_cells(cell, new),
-        MergedCell::Sum(sum) => compare_cells(&Cell::Int(sum), new),
-    };
-    match order {
+    match compare_merged(old, new) {
         Ordering::Greater => true,
         Ordering::Less | Ordering::Equal => false,
     }

@@ -1,10 +1,11 @@
 // Lists of rows that are read side by side: their heads.
 ghost use Rattle.std.specs.Prelude.{◌≡◌, ◌+◌, ◌<◌, ◌≤◌, ◌++◌, [], drop, length, map, option_to_list, IfNone, IfSome};
 ghost use Rattle.std.specs.BinaryHeap.{IsUpperBound};
+ghost use Rattle.std.specs.List.Sorted.{IsPermutation};
 ghost use Rattle.merge_read.specs.HeadOrder.{head_cmp};
 ghost use Rattle.merge_read.specs.Keys.{key_width};
 ghost use Rattle.merge_read.specs.Lists.{AreSortedLists};
-ghost use Rattle.merge_read.specs.Rests.{AreHeads, AreRead, some_row, unread};
+ghost use Rattle.merge_read.specs.Rests.{AreHeads, AreRead, head_if, some_row, unread};
 
 use crate::head::Head;
 use crate::heads::Heads;
@@ -34,28 +35,48 @@ fn load_head<'a, R: SortedRows, L: Ledger>(
     others.put(Head::new(row, width, list));
 }
 
-// Looks at the row of a list at a place, where it has one, and gives the first of all heads.
+// Puts the first of other heads, where there is one, in the place of a head whose list has ended.
+#[inline(never)]
+fn next_list<'a>(first: &mut Head<'a>, others: &mut Heads<'a>) -> bool
+    ensures moved { IsPermutation others.old.items (option_to_list (head_if result first.new) ++ others.new.items) }
+    ensures first { IfSome (head_if result first.new) (λ x. IsUpperBound head_cmp x others.new.items) }
+    ensures none { IfNone (head_if result first.new) (others.new.items ≡ []) }
+    ensures room { others.old.room ≤ others.new.room }
+{
+    match others.take() {
+        None => false,
+        Some(head) => {
+            *first = head;
+            true
+        }
+    }
+}
+
+// Looks at the row of a list at a place, where it has one, and puts the first of all heads in the place of a head that was
+// taken. Where there is none it is false.
 pub fn next_first<'a, R: SortedRows, L: Ledger>(
     width: usize,
     list: usize,
     rows: &'a R,
     place: usize,
+    first: &mut Head<'a>,
     others: &mut Heads<'a>,
     steps: &mut Steps<L>,
-) -> Option<Head<'a>>
+) -> bool
     requires some { 0 < width }
     requires room { length others.old.items < others.old.room }
-    ensures read { AreRead width list (drop place (R.rows rows.now)) others.old.items (option_to_list result ++ others.new.items) }
-    ensures first { IfSome result (λ x. IsUpperBound head_cmp x others.new.items) }
-    ensures none { IfNone result (others.new.items ≡ []) }
+    ensures read { AreRead width list (drop place (R.rows rows.now)) others.old.items (option_to_list (head_if result first.new) ++ others.new.items) }
+    ensures first { IfSome (head_if result first.new) (λ x. IsUpperBound head_cmp x others.new.items) }
+    ensures none { IfNone (head_if result first.new) (others.new.items ≡ []) }
     ensures room { others.old.room ≤ others.new.room }
     ensures counted { steps.new ≡ steps.old + some_row (drop place (R.rows rows.now)) }
 {
-    if place >= rows.len() {
-        return others.take();
+    if place < rows.len() {
+        let row = rows.row(place, steps);
+        *first = others.first_of(Head::new(row, width, list));
+        return true;
     }
-    let row = rows.row(place, steps);
-    Some(others.first_of(Head::new(row, width, list)))
+    next_list(first, others)
 }
 
 // Looks at the first row of each list.

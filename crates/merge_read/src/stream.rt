@@ -1,12 +1,20 @@
 // Lists of rows that are read side by side, of which the first row by key and age comes next.
-ghost use Rattle.std.specs.Prelude.{◌≡◌, ◌+◌, ◌<◌, IfOk, IsTrue, false, map, replicate, true};
-ghost use Rattle.merge_read.specs.Lists.{AreSortedLists};
-ghost use Rattle.merge_read.specs.Rests.{IsTaken, unread_in};
+ghost use Rattle.std.specs.Prelude.{◌≡◌, ◌+◌, IfNone, IfOk, IfSome, IsSome, Some, [], false, length, map, option_copied, replicate, true};
+ghost use Rattle.std.specs.List.{AllByRecursion};
+ghost use Rattle.std.specs.declared.cmp.Ordering.TheVariants.{Equal};
+ghost use Rattle.dl_values.specs.Order.{row_cmp};
+ghost use Rattle.row_fold.specs.Prefix.{row_prefix};
 ghost use Rattle.merge_read.specs.HeadOrder.{head_key};
-ghost use Rattle.merge_read.specs.Runs.{AreAbove, AreFrom, IsSameFirst, IsSameTaken};
+ghost use Rattle.merge_read.specs.Lists.{AreSortedLists};
+ghost use Rattle.merge_read.specs.Merged.{row_of};
+ghost use Rattle.merge_read.specs.Rests.{IsTaken, unread_in};
+ghost use Rattle.merge_read.specs.Runs.{AreAbove, AreFrom};
+ghost use Rattle.schema_models.specs.Folds.{key_of};
+ghost use Rattle.schema_models.specs.declared.model.Model.TheVariants as model;
 
 use crate::head::Head;
 use crate::heads::Heads;
+use crate::merged_cell::MergedCell;
 use crate::next_heads::{load_heads, next_first};
 use crate::widths::key_width;
 use dl_outside::Steps;
@@ -14,9 +22,7 @@ use dl_values::NoMemory;
 use row_fold::SortedRows;
 use schema_models::Shape;
 use std::alloc::Global;
-use std::cmp::Ordering;
 use std::marker::Model;
-use std::mem;
 use std::sync::ledger::Ledger;
 
 // The lists, how many rows were taken of each, and the next row of each: the first of them, and the others.
@@ -90,59 +96,70 @@ impl<'a, R: SortedRows> Stream<'a, R> {
         self.begun = true;
     }
 
-    // Takes the first row by key and age, and looks at the next one of its list.
-    pub fn take<L: Ledger>(&mut self, steps: &mut Steps<L>) -> Option<Head<'a>>
-        requires { self.old.begun ≡ true }
-        ensures first { result ≡ self.old.first }
+    // The first row by key and age.
+    pub fn first(&self) -> Option<&Head<'a>>
+        requires { self.now.begun ≡ true }
+        ensures first { option_copied result ≡ self.now.first }
+        ensures whole { IfSome result (λ h. length h.now.row ≡ length self.now.shape.columns) }
+        ensures none { IfNone result (AllByRecursion (λ r. r ≡ []) self.now.rests) }
+    {
+        match &self.first {
+            None => None,
+            Some(first) => Some(first),
+        }
+    }
+
+    // The first row, where it has the key of a row that is being made. The number is that of the key.
+    pub fn first_of_key(&self, prefix: u64, cells: &[MergedCell]) -> Option<&Head<'a>>
+        requires begun { self.now.begun ≡ true }
+        requires merges { self.now.shape.model ≡ model.Duplicate → ⊥ }
+        requires prefix { prefix ≡ row_prefix (key_of self.now.shape (row_of cells.now)) }
+        ensures first { IfSome result (λ h. self.now.first ≡ Some h.now) }
+        ensures whole { IfSome result (λ h. length h.now.row ≡ length self.now.shape.columns) }
+        ensures same { IfSome result (λ h. row_cmp (key_of self.now.shape (row_of cells.now)) (head_key h.now) ≡ Equal) }
+        ensures other { IfNone result (AreFrom self.now.shape (key_of self.now.shape (row_of cells.now)) self.now.rests → AreAbove self.now.shape (key_of self.now.shape (row_of cells.now)) self.now.rests) }
+    {
+        match &self.first {
+            None => None,
+            Some(first) => {
+                if first.has_key(prefix, cells, self.width) {
+                    Some(first)
+                } else {
+                    None
+                }
+            }
+        }
+    }
+
+    // Leaves the first row behind, and looks at the next one of its list.
+    pub fn advance<L: Ledger>(&mut self, steps: &mut Steps<L>)
+        requires begun { self.old.begun ≡ true }
+        requires some { IsSome self.old.first }
         ensures shape { self.new.shape ≡ self.old.shape }
         ensures begun { self.new.begun ≡ true }
-        ensures taken { IsTaken self.old result self.new }
+        ensures taken { IsTaken self.old self.old.first self.new }
         ensures counted { steps.new + unread_in self.new ≡ steps.old + unread_in self.old }
     {
-        let Some(head) = mem::replace(&mut self.first, None) else {
-            return None;
+        let lists = self.lists;
+        let Some(first) = &mut self.first else {
+            unreachable!()
         };
-        let list = head.list;
-        let rows = &self.lists[list];
+        let list = first.list;
+        let rows = &lists[list];
         // The row that is taken stands before the end, so that the next place is a number.
         let _end = rows.len();
         let place = self.places[list] + 1;
         self.places[list] = place;
-        self.first = next_first(self.width, list, rows, place, &mut self.others, steps);
-        Some(head)
-    }
-
-    // Takes the first row where it has the key of a head.
-    pub fn take_same<L: Ledger>(
-        &mut self,
-        head: &Head<'a>,
-        steps: &mut Steps<L>,
-    ) -> Option<Head<'a>>
-        requires { self.old.begun ≡ true }
-        ensures shape { self.new.shape ≡ self.old.shape }
-        ensures begun { self.new.begun ≡ true }
-        ensures taken { IsSameTaken (head_key head.now) self.old result self.new }
-        ensures counted { steps.new + unread_in self.new ≡ steps.old + unread_in self.old }
-    {
-        if self.is_same(head) {
-            self.take(steps)
-        } else {
-            None
-        }
-    }
-
-    // Whether the first row has the key of a head.
-    fn is_same(&self, head: &Head<'a>) -> bool
-        requires { self.now.begun ≡ true }
-        ensures same { IsTrue result → IsSameFirst (head_key head.now) self.now.first }
-        ensures other { (IsTrue result → ⊥) → AreFrom self.now.shape (head_key head.now) self.now.rests → AreAbove self.now.shape (head_key head.now) self.now.rests }
-    {
-        match &self.first {
-            None => false,
-            Some(first) => match head.compare_key(first) {
-                Ordering::Equal => true,
-                Ordering::Less | Ordering::Greater => false,
-            },
+        if !next_first(
+            self.width,
+            list,
+            rows,
+            place,
+            first,
+            &mut self.others,
+            steps,
+        ) {
+            self.first = None;
         }
     }
 }

@@ -1,61 +1,87 @@
-use Rattle.std.proofs.Common.{◌≡◌, ◌∷◌, ◌∙◌, List, Option, None, length, refl, ap, sym, subst}
+use Rattle.std.proofs.Common.{◌≡◌, ◌∷◌, ◌∙◌, List, Option, Some, length, refl, ap, sym, subst}
 use Rattle.dl_values.specs.declared.cell.Cell.{Cell}
-use Rattle.schema_models.specs.Folds.{fold_of, merged_row}
+use Rattle.schema_models.specs.Folds.{fold_of, key_of, merged_row}
 use Rattle.schema_models.specs.ShapeView.{ShapeView}
 use Rattle.schema_models.specs.declared.column_def.ColumnDef.{ColumnDef}
-use Rattle.schema_models.specs.declared.model.Model.TheVariants as model
-use Rattle.merge_read.proofs.RunLemmas.{IsRun, passed_length, passed_less, run_ends, run_goes_on}
+use Rattle.std.specs.declared.cmp.Ordering.TheVariants.{Equal}
+use Rattle.dl_values.specs.Order.{row_cmp}
+use Rattle.row_fold.specs.Prefix.{row_prefix}
+use Rattle.merge_read.proofs.RunLemmas.{passed_less, run_ends, run_goes_on}
 use Rattle.merge_read.specs.HeadOrder.{head_key}
 use Rattle.merge_read.specs.Lists.{joined}
 use Rattle.merge_read.specs.Merged.{row_of}
-use Rattle.merge_read.specs.Rests.{StreamView}
-use Rattle.merge_read.specs.Runs.{AreAbove, AreFrom, IsSamePassed, IsSameTaken}
+use Rattle.merge_read.specs.Rests.{IsPassed, IsTaken, StreamView}
+use Rattle.merge_read.specs.Runs.{AreAbove, AreFrom, IsSamePassed}
 use Rattle.merge_read.specs.declared.head.Head.{Head}
 use Rattle.merge_read.proofs.runs.merge_same.Goals as goal
 
--- the head that was taken, by the shape
-passed : (s : ShapeView) (k : List Cell) (old new : StreamView) (h : Head) → old.shape ≡ s → IsSamePassed old.shape k old.rests h new.rests → IsSamePassed s k old.rests h new.rests
-passed s k old new h e p = subst (λ (t : ShapeView). IsSamePassed t k old.rests h new.rests) e p
+-- the first row is left behind, by the shape and its key
+passed : (s : ShapeView) (k : List Cell) (old new : StreamView) (h : Head) → old.shape ≡ s → old.first ≡ Some h → row_cmp k (head_key h) ≡ Equal → IsTaken old old.first new → IsSamePassed s k old.rests h new.rests
+passed s k old new h e f same t = record {
+  passed = subst (λ (x : ShapeView). IsPassed x old.rests h new.rests) e (subst (λ (o : Option Head). IsTaken old o new) f t);
+  same = same;
+}
+
+-- the key of the row so far is that of the first
+key_so_far : (s t : ShapeView) (k made : List Cell) → t ≡ s → key_of s made ≡ k → key_of t made ≡ k
+key_so_far s t k made e f = ap (λ (x : ShapeView). key_of x made) e ∙ f
+
+pub first_of_key-requires : goal.first_of_key-requires
+first_of_key-requires g c =
+    let s = c.args.shape.now in
+    let l = c.loop-head in
+    let key = key_so_far s l.stream.shape (key_of s (row_of c.args.cells.now)) (row_of l.cells) l.invariant.shape l.invariant.run.key in
+    record {
+      begun = l.invariant.begun;
+      merges = λ d. c.requires.merges (sym (ap (λ (x : ShapeView). x.model) l.invariant.shape) ∙ d);
+      prefix = c.requires.prefix ∙ sym (ap row_prefix key);
+    }
 
 pub merge-requires-clause-row : goal.merge-requires-clause-row
 merge-requires-clause-row g c =
-    let s = c.args.shape.now in
-    let p = passed s (head_key c.args.head.now) c.loop-more.stream c.take_same.new.self c.in-Some.more c.loop-more.invariant.shape c.in-Some.ensures.taken in
-    passed_length s c.loop-more.stream.rests c.take_same.new.self.rests c.in-Some.more p.passed ∙ sym (ap (λ (cs : List ColumnDef). length cs) c.columns.ensures)
+    c.in-Some.ensures.whole ∙ ap (λ (x : ShapeView). length x.columns) c.loop-head.invariant.shape ∙ sym (ap (λ (cs : List ColumnDef). length cs) c.columns.ensures)
 
-pub loop-more-preserved : goal.loop-more-preserved
-loop-more-preserved g c =
+pub loop-head-preserved : goal.loop-head-preserved
+loop-head-preserved g c =
     let s = c.args.shape.now in
-    let k = head_key c.args.head.now in
-    let p = passed s k c.loop-more.stream c.take_same.new.self c.in-Some.more c.loop-more.invariant.shape c.in-Some.ensures.taken in
+    let l = c.loop-head in
+    let h = c.in-Some.head.now in
+    let k = key_of s (row_of c.args.cells.now) in
+    let key = key_so_far s l.stream.shape k (row_of l.cells) l.invariant.shape l.invariant.run.key in
+    let p = passed s k l.stream c.advance.new.self h l.invariant.shape c.in-Some.ensures.first (ap (λ (x : List Cell). row_cmp x (head_key h)) (sym key) ∙ c.in-Some.ensures.same) c.advance.ensures.taken in
     let fold = fold_of s (row_of c.args.cells.now ∷ joined c.args.stream.now.rests) in
     record {
-      shape = c.in-Some.ensures.shape ∙ c.loop-more.invariant.shape;
-      begun = c.in-Some.ensures.begun;
-      run = run_goes_on s k (row_of c.loop-more.cells) (row_of c.merge.new.cells) c.loop-more.stream.rests c.take_same.new.self.rests c.in-Some.more fold c.requires.merges c.loop-more.invariant.run p
-          (c.merge.ensures ∙ ap (λ (cs : List ColumnDef). merged_row cs (row_of c.loop-more.cells) c.in-Some.more.row) c.columns.ensures);
-      counted = c.in-Some.ensures.counted ∙ c.loop-more.invariant.counted;
+      shape = c.advance.ensures.shape ∙ l.invariant.shape;
+      begun = c.advance.ensures.begun;
+      run = run_goes_on s k (row_of l.cells) (row_of c.merge.new.cells) l.stream.rests c.advance.new.self.rests h fold c.requires.merges l.invariant.run p
+          (c.merge.ensures ∙ ap (λ (cs : List ColumnDef). merged_row cs (row_of l.cells) h.row) c.columns.ensures);
+      counted = c.advance.ensures.counted ∙ l.invariant.counted;
     }
 
-pub loop-more-smaller : goal.loop-more-smaller
-loop-more-smaller g c =
+pub loop-head-smaller : goal.loop-head-smaller
+loop-head-smaller g c =
     let s = c.args.shape.now in
-    let p = passed s (head_key c.args.head.now) c.loop-more.stream c.take_same.new.self c.in-Some.more c.loop-more.invariant.shape c.in-Some.ensures.taken in
-    passed_less s c.loop-more.stream.rests c.take_same.new.self.rests c.in-Some.more p.passed
+    let l = c.loop-head in
+    let h = c.in-Some.head.now in
+    let k = key_of s (row_of c.args.cells.now) in
+    let key = key_so_far s l.stream.shape k (row_of l.cells) l.invariant.shape l.invariant.run.key in
+    let p = passed s k l.stream c.advance.new.self h l.invariant.shape c.in-Some.ensures.first (ap (λ (x : List Cell). row_cmp x (head_key h)) (sym key) ∙ c.in-Some.ensures.same) c.advance.ensures.taken in
+    passed_less s l.stream.rests c.advance.new.self.rests h p.passed
 
-pub loop-more-init : goal.loop-more-init
-loop-more-init g c = record {
+pub loop-head-init : goal.loop-head-init
+loop-head-init g c = record {
   shape = c.requires.shape;
   begun = c.requires.begun;
-  run = record { key = c.requires.key; from = c.requires.from; merged = refl };
+  run = record { key = refl; from = c.requires.from; merged = refl };
   counted = refl;
 }
 
-ended : (s : ShapeView) (k : List Cell) (made : List Cell) (old new : StreamView) (fold : List (List Cell)) → (s.model ≡ model.Duplicate → ⊥) → old.shape ≡ s → IsRun s k made old.rests fold → IsSameTaken k old None new → fold ≡ made ∷ fold_of s (joined new.rests)
-ended s k made old new fold n e r t =
-    run_ends s k made old.rests fold n r (subst (λ (x : ShapeView). AreFrom x k old.rests → AreAbove x k old.rests) e t.1) ∙ ap (λ (v : StreamView). made ∷ fold_of s (joined v.rests)) (sym t.0)
-
 pub returns-clause-merged : goal.returns-clause-merged
 returns-clause-merged g c =
-    ended c.args.shape.now (head_key c.args.head.now) (row_of c.loop-more.cells) c.loop-more.stream c.take_same.new.self (fold_of c.args.shape.now (row_of c.args.cells.now ∷ joined c.args.stream.now.rests)) c.requires.merges c.loop-more.invariant.shape c.loop-more.invariant.run
-    (subst (λ (r : Option Head). IsSameTaken (head_key c.args.head.now) c.loop-more.stream r c.take_same.new.self) c.in_default.is c.take_same.ensures.taken)
+    let s = c.args.shape.now in
+    let l = c.loop-head in
+    let k = key_of s (row_of c.args.cells.now) in
+    let key = key_so_far s l.stream.shape k (row_of l.cells) l.invariant.shape l.invariant.run.key in
+    run_ends s k (row_of l.cells) l.stream.rests (fold_of s (row_of c.args.cells.now ∷ joined c.args.stream.now.rests)) c.requires.merges l.invariant.run
+    (subst (λ (x : ShapeView). AreFrom x k l.stream.rests → AreAbove x k l.stream.rests) l.invariant.shape
+    (subst (λ (y : List Cell). AreFrom l.stream.shape y l.stream.rests → AreAbove l.stream.shape y l.stream.rests) key c.in_default.ensures.other))
