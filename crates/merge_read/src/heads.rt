@@ -71,21 +71,6 @@ impl<'a> Heads<'a> {
         }
     }
 
-    // The first of a head and these, by way of the heap. It stands by itself, so that a list which goes on stays short.
-    #[inline(never)]
-    fn exchange(&mut self, head: Head<'a>) -> Head<'a>
-        requires { length self.old.items < self.old.room }
-        ensures moved { IsPermutation (head.entry ∷ self.old.items) (result ∷ self.new.items) }
-        ensures first { IsUpperBound head_cmp result self.new.items }
-        ensures room { self.old.room ≤ self.new.room }
-    {
-        self.put(head);
-        match self.take() {
-            Some(first) => first,
-            None => unreachable!(),
-        }
-    }
-
     // The first of a head and these, of which the others stay.
     pub fn first_of(&mut self, head: Head<'a>) -> Head<'a>
         requires { length self.old.items < self.old.room }
@@ -96,6 +81,10 @@ impl<'a> Heads<'a> {
         if self.is_first(&head) {
             return head;
         }
-        self.exchange(head)
+        self.put(head);
+        match self.take() {
+            Some(first) => first,
+            None => unreachable!(),
+        }
     }
 }

@@ -2,7 +2,7 @@ use Rattle.std.proofs.Common.{◌≡◌, ◌∷◌, [], List, length, ap, arith}
 use Rattle.std.proofs.lemmas.List.Sorted.{IsPermutation-trans, length_permutation}
 use Rattle.std.specs.List.Sorted.{IsPermutation}
 use Rattle.merge_read.specs.declared.head.Head.{Head}
-use Rattle.merge_read.proofs.heads.Heads.exchange.Goals as goal
+use Rattle.merge_read.proofs.heads.Heads.first_of.Goals as goal
 
 never : (x : Head) (xs ys : List Head) → IsPermutation (x ∷ xs) ys → ys ≡ [] → ⊥
 never x xs ys p e =
