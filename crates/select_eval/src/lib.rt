@@ -2,6 +2,7 @@
 #![tactic(auto)]
 
 mod asked;
+mod block_tests;
 mod cells;
 mod condition;
 mod conditions;
@@ -12,6 +13,8 @@ mod grouping;
 mod output;
 mod output_rows;
 mod passing;
+mod piece;
+mod pieces;
 mod selection;
 
 pub use selection::select;
