@@ -9,6 +9,7 @@ mod conditions;
 mod first_rows;
 mod group;
 mod group_key;
+mod grouped_rows;
 mod grouping;
 mod output;
 mod output_rows;

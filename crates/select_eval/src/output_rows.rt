@@ -9,7 +9,6 @@ ghost use Rattle.select_defs.specs.Groups as groups;
 ghost use Rattle.select_defs.specs.Items.{items_of};
 ghost use Rattle.select_eval.specs.BlockTests.{block_tests as block_tests_of, key_width, tests_in};
 ghost use Rattle.select_eval.specs.Conditions.{all_hold};
-ghost use Rattle.select_eval.specs.Grouping as growing;
 ghost use Rattle.select_eval.specs.Groupings.{output_rows_of};
 ghost use Rattle.select_eval.specs.Looks.{in_blocks, looked_at};
 ghost use Rattle.select_eval.specs.Outputs as outputs;
@@ -21,9 +20,8 @@ use crate::cells::copy_at;
 use crate::condition::Condition;
 use crate::conditions::conditions_of;
 use crate::first_rows::trim;
-use crate::group::Group;
-use crate::group_key::GroupKey;
-use crate::grouping::{Grouping, rows_of};
+use crate::grouped_rows::grouped_rows;
+use crate::grouping::Grouping;
 use crate::passing::next_passing;
 use crate::pieces::pieces_of;
 use dl_outside::Steps;
@@ -34,7 +32,6 @@ use schema_models::Shape;
 use select_defs::is_grouped;
 use sql_text::{Item, Query};
 use std::alloc::Global;
-use std::collections::BTreeMap;
 use std::sync::ledger::Ledger;
 use zones::Zones;
 
@@ -92,26 +89,6 @@ fn plain_rows<'a, R: SortedRows, L: Ledger>(
     Ok(all)
 }
 
-// The groups of the rows still to come of a reading that pass.
-fn groups_in<'a, R: SortedRows, L: Ledger>(
-    alloc: Global,
-    grouping: &Grouping,
-    conditions: &[Condition],
-    merge: &mut Merge<'a, R>,
-    steps: &mut Steps<L>,
-) -> Result<BTreeMap<GroupKey, Group>, NoMemory>
-    ensures groups { IfOk result (λ m. m.entries ≡ growing.put_all grouping.now (growing.first_groups grouping.now) (still_passing conditions.now merge.old)) }
-    ensures counted { OnOk result (steps.new ≡ steps.old + merge.old.unread) }
-    ensures within { steps.new ≤ steps.old + merge.old.unread }
-{
-    let mut all = grouping.begin(alloc)?;
-    let mut key = GroupKey::new(alloc);
-    'rows: while next_passing(merge, conditions, steps) {
-        key = grouping.put(alloc, &mut all, key, merge.present())?;
-    }
-    Ok(all)
-}
-
 // Rows of which the answer of a reading that is not begun shows what it shows of all.
 fn output_rows_in<'a, R: SortedRows, L: Ledger>(
     alloc: Global,
@@ -130,8 +107,7 @@ fn output_rows_in<'a, R: SortedRows, L: Ledger>(
 {
     if is_grouped(base, query, list) {
         let grouping = Grouping::new(alloc, index, query.group.as_slice(), list)?;
-        let all = groups_in(alloc, &grouping, conditions, merge, steps)?;
-        return rows_of(alloc, all);
+        return grouped_rows(alloc, &grouping, conditions, merge, steps);
     }
     let places = plain_places(alloc, index, list)?;
     plain_rows(
