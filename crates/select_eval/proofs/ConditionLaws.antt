@@ -15,10 +15,8 @@ use Rattle.select_defs.specs.Columns.{kind_named}
 use Rattle.select_defs.specs.Filters.{compares, literal_cell, passes_check, passes_filter, passes_in, selected}
 use Rattle.select_defs.specs.Filters as filters
 use Rattle.select_eval.specs.Conditions.{all_hold, asked_in, asked_of, compared, condition_of, holds, passes}
-use Rattle.select_eval.specs.Passing.{still_passing}
 use Rattle.select_eval.specs.Places.{cell_in, place_of}
 use Rattle.select_eval.specs.declared.condition.Condition.{Condition}
-use Rattle.merge_read.specs.MergeView.{MergeView}
 use Rattle.select_eval.proofs.PlaceLaws.{cell_at_place}
 
 compared_is : (o : CompareOp) (y : Option Cell) (x : Cell) → passes (compared o y) x ≡ compares o x y
@@ -45,9 +43,8 @@ module _ (base s : ShapeView) where
   conditions_are row [] = refl
   conditions_are row (f ∷ fs) = ap₂ (λ (a b : Bool). a && b) (condition_is row f) (conditions_are row fs)
 
-  pub selected_is : (q : Query) (rows : List (List Cell)) → filter (all_hold (map (condition_of base s) q.filters)) rows ≡ selected base s q rows
+  selected_is : (q : Query) (rows : List (List Cell)) → filter (all_hold (map (condition_of base s) q.filters)) rows ≡ selected base s q rows
   selected_is q rows = filter_agree (all_hold (map (condition_of base s) q.filters)) (filters.passes base s q) (λ row. conditions_are row q.filters) rows
 
-  -- what still passes of a reading that has all rows before it
-  pub kept_is : (q : Query) (list : List Condition) (m : MergeView) (rows : List (List Cell)) → list ≡ map (condition_of base s) q.filters → m.left ≡ rows → still_passing list m ≡ selected base s q rows
-  kept_is q list m rows e f = ap₂ (λ (l : List Condition) (r : List (List Cell)). filter (all_hold l) r) e f ∙ selected_is q rows
+  pub passing_is : (q : Query) (list : List Condition) (rows : List (List Cell)) → list ≡ map (condition_of base s) q.filters → filter (all_hold list) rows ≡ selected base s q rows
+  passing_is q list rows e = ap (λ (l : List Condition). filter (all_hold l) rows) e ∙ selected_is q rows

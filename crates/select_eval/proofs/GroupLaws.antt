@@ -30,7 +30,8 @@ use Rattle.select_defs.specs.Refusals.{is_grouped}
 use Rattle.select_defs.proofs.Joins.{cells_join}
 use Rattle.select_eval.specs.Grouping.{Entries, Grouping, first_groups, key_in, put, put_all, put_by}
 use Rattle.select_eval.specs.Groupings.{cells_of_group, entry_of, grouping_of, groups_of, output_rows_of}
-use Rattle.select_eval.specs.Outputs.{begun, cells_in, fresh, grown, more, output_of, plain_place}
+use Rattle.select_eval.specs.Outputs.{begun, cells_in, fresh, grown, grown_by, more, output_of, plain_place}
+use Rattle.select_eval.specs.declared.output.Output.{Output}
 use Rattle.select_eval.specs.Places.{cell_in, place_of}
 use Rattle.select_eval.proofs.GroupEntries.{distinct_grows, found, looked_up, none_has, not_there_yet}
 use Rattle.select_eval.proofs.PlaceLaws.{cell_at_place, cell_under_name}
@@ -186,10 +187,10 @@ grouped_rows s group items rows =
 
 -- ---- the rows of an answer before they are ordered
 
-pub grouped_are : (base s : ShapeView) (q : Query) (g : Grouping) (items : List Item) (es : Entries) (rows : List (List Cell)) → true ≡ is_grouped base q → items ≡ items_of base q → g ≡ grouping_of s q.group items
-    → es ≡ put_all g (first_groups g) rows → map (λ (e : List Cell × List Cell). e.1) es ≡ output_rows_of base s q rows
-grouped_are base s q g items es rows h i e f =
-    ap (map (λ (e : List Cell × List Cell). e.1)) (f ∙ ap (λ (z : Grouping). put_all z (first_groups z) rows) (e ∙ ap (grouping_of s q.group) i))
+pub grouped_are : (base s : ShapeView) (q : Query) (g : Grouping) (items : List Item) (rows : List (List Cell)) → true ≡ is_grouped base q → items ≡ items_of base q → g ≡ grouping_of s q.group items
+    → map (λ (e : List Cell × List Cell). e.1) (put_all g (first_groups g) rows) ≡ output_rows_of base s q rows
+grouped_are base s q g items rows h i e =
+    ap (λ (z : Grouping). map (λ (e : List Cell × List Cell). e.1) (put_all z (first_groups z) rows)) (e ∙ ap (grouping_of s q.group) i)
     ∙ grouped_rows s q.group (items_of base q) rows
     ∙ ap (λ b. cond b (group_rows s q.group (items_of base q) rows) (map (plain_row s (items_of base q)) rows)) h
 
@@ -199,3 +200,17 @@ plain_are base s q items places rows h i e =
     ap (λ ps. map (cells_in ps) rows) (e ∙ ap (map (plain_place s)) i)
     ∙ plain_rows s (items_of base q) rows
     ∙ ap (λ b. cond b (group_rows s q.group (items_of base q) rows) (map (plain_row s (items_of base q)) rows)) h
+
+-- ---- all rows make one group
+
+abbrev one_by : List Output → Grouping
+one_by os = record { places = []; outputs = os }
+
+into_one : (os : List Output) (xs : List Cell) (rows : List (List Cell)) → put_all (one_by os) (([], xs) ∷ []) rows ≡ ([], grown_by os xs rows) ∷ []
+into_one os xs [] = refl
+into_one os xs (row ∷ rows) = into_one os (grown os xs row) rows
+
+pub one_group : (g : Grouping) (rows : List (List Cell)) → g.places ≡ [] → map (λ (e : List Cell × List Cell). e.1) (put_all g (first_groups g) rows) ≡ grown_by g.outputs (begun g.outputs []) rows ∷ []
+one_group g rows e =
+    ap (λ (ps : List (Option ℕ)). map (λ (e : List Cell × List Cell). e.1) (put_all (record { places = ps; outputs = g.outputs }) (first_groups (record { places = ps; outputs = g.outputs })) rows)) e
+    ∙ ap (map (λ (e : List Cell × List Cell). e.1)) (into_one g.outputs (begun g.outputs []) rows)

@@ -1,5 +1,7 @@
 pub mod PlaceLaws
 pub mod ConditionLaws
+pub mod Cuts
+pub mod BlockLaws
 pub mod PassingLaws
 pub mod KeyOrder
 pub mod GroupCells

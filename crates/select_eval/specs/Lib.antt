@@ -1,5 +1,8 @@
 pub mod Places
 pub mod Conditions
+pub mod BlockTests
+pub mod Pieces
+pub mod Looks
 pub mod Passing
 pub mod Outputs
 pub mod Grouping

@@ -55,3 +55,8 @@ abbrev pub grown : List Output → List Cell → List Cell → List Cell
 grown os [] row = []
 grown [] (x ∷ xs) row = x ∷ xs
 grown (o ∷ os) (x ∷ xs) row = more o x row ∷ grown os xs row
+
+-- the cells with these rows more, one after the other
+abbrev pub grown_by : List Output → List Cell → List (List Cell) → List Cell
+grown_by os xs [] = xs
+grown_by os xs (row ∷ rows) = grown_by os (grown os xs row) rows

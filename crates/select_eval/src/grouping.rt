@@ -1,9 +1,8 @@
 // Rows are put into groups by their keys, which stand in order.
-ghost use Rattle.std.specs.Prelude.{◌≡◌, ◌∷◌, [], IfOk, OnOk, map};
+ghost use Rattle.std.specs.Prelude.{◌≡◌, [], IfOk, OnOk, false, map, true};
 ghost use Rattle.merge_read.specs.Merged.{row_of};
 ghost use Rattle.select_eval.specs.Grouping as groups;
 ghost use Rattle.select_eval.specs.Groupings.{grouping_of};
-ghost use Rattle.select_eval.specs.Outputs.{begun};
 ghost use Rattle.select_eval.specs.Places.{place_of};
 
 use crate::group::Group;
@@ -42,17 +41,6 @@ fn places_of(alloc: Global, index: &Shape, group: &[Name]) -> Result<Vec<Option<
     Ok(all)
 }
 
-// The group of all rows, which has none yet.
-fn one_group(alloc: Global, outputs: &[Output]) -> Result<BTreeMap<GroupKey, Group>, NoMemory>
-    ensures { IfOk result (λ m. m.entries ≡ ([], begun outputs.now []) ∷ []) }
-{
-    let mut all = BTreeMap::new(alloc);
-    let key = GroupKey::new(alloc);
-    let group = Group::begin(alloc, outputs, key.cells())?;
-    all.insert(key, group)?;
-    Ok(all)
-}
-
 impl Grouping {
     // Rows of a shape by these names, for a select list.
     pub fn new(
@@ -69,14 +57,22 @@ impl Grouping {
         })
     }
 
-    // The groups before any row: none, or without names the one of all rows.
-    pub fn begin(&self, alloc: Global) -> Result<BTreeMap<GroupKey, Group>, NoMemory>
-        ensures { IfOk result (λ m. m.entries ≡ groups.first_groups self.now) }
+    // Whether all rows make one group.
+    pub fn is_one(&self) -> bool
+        ensures one { result ≡ true → self.now.places ≡ [] }
+        ensures many { result ≡ false → groups.first_groups self.now ≡ [] }
     {
         match self.places.as_slice() {
-            [] => one_group(alloc, self.outputs.as_slice()),
-            [_, ..] => Ok(BTreeMap::new(alloc)),
+            [] => true,
+            [_, ..] => false,
         }
+    }
+
+    // The select list.
+    pub fn outputs(&self) -> &[Output]
+        ensures { result.now ≡ self.now.outputs }
+    {
+        self.outputs.as_slice()
     }
 
     // Puts a row into the group of its key. The key is made in the room of another one, and given back.

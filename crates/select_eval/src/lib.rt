@@ -2,16 +2,20 @@
 #![tactic(auto)]
 
 mod asked;
+mod block_tests;
 mod cells;
 mod condition;
 mod conditions;
 mod first_rows;
 mod group;
 mod group_key;
+mod grouped_rows;
 mod grouping;
 mod output;
 mod output_rows;
 mod passing;
+mod piece;
+mod pieces;
 mod selection;
 
 pub use selection::select;

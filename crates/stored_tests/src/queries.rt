@@ -1,5 +1,5 @@
 // Queries over stored lists answer what was worked out by hand, and what the plain evaluation answers over the fold of all
-// rows; each row is looked at once for an answer, and none for a refusal.
+// rows; each row in a block that may match is looked at once for an answer, and none for a refusal.
 ghost use Rattle.std.specs.Prelude.{◌≡◌, ◌<◌, map};
 ghost use Rattle.merge_read.specs.Lists.{AreSortedLists};
 
@@ -69,10 +69,25 @@ fn rows(alloc: Global, shape: &Shape, text: &str) -> Result<Rows, Fail> {
     Ok(rows)
 }
 
-fn lists(alloc: Global, shape: &Shape, texts: &[&str]) -> Result<Vec<Counted>, Fail> {
+// Rows `1,1` `2,2` and so on.
+fn rising(alloc: Global, count: i64) -> Result<Rows, NoMemory> {
+    let mut rows = Rows::new(alloc);
+    for key in 1..=count {
+        let mut row = Row::new(alloc);
+        row.push(Cell::Int(key))?;
+        row.push(Cell::Int(key))?;
+        rows.push(row)?;
+    }
+    Ok(rows)
+}
+
+fn lists(alloc: Global, shape: &Shape, case: &Case) -> Result<Vec<Counted>, Fail> {
     let mut lists = Vec::new(alloc);
-    for text in texts {
+    for text in case.lists {
         lists.push(Counted::new(rows(alloc, shape, text)?))?;
+    }
+    if case.rising > 0 {
+        lists.push(Counted::new(rising(alloc, case.rising)?))?;
     }
     Ok(lists)
 }
@@ -134,9 +149,9 @@ struct Compared {
     looks: usize,
 }
 
-fn answers_of(alloc: Global, shape: &Shape, texts: &[&str], text: &str) -> Result<Compared, Fail> {
+fn answers_of(alloc: Global, shape: &Shape, case: &Case, text: &str) -> Result<Compared, Fail> {
     let query = query(alloc, text)?;
-    let lists = lists(alloc, shape, texts)?;
+    let lists = lists(alloc, shape, case)?;
     if !are_lists(shape, &lists) {
         return Err("no lists of the shape".into());
     }
@@ -153,7 +168,7 @@ fn answers_of(alloc: Global, shape: &Shape, texts: &[&str], text: &str) -> Resul
 fn answers(rt: &impl Abort, alloc: Global, case: &Case) -> Result<(), Fail> {
     let shape = shape(alloc, case)?;
     for (text, wanted) in case.queries {
-        let seen = answers_of(alloc, &shape, case.lists, text)?;
+        let seen = answers_of(alloc, &shape, case, text)?;
         assert_eq!(rt; seen.selected.as_slice(), wanted.as_bytes(), "{text}");
         assert_eq!(rt; seen.evaluated.as_slice(), wanted.as_bytes(), "{text}");
         assert_eq!(rt; seen.looks, case.looks, "{text}");

@@ -5,11 +5,13 @@ use schema_models::{Model, Role};
 // The rows of three lists, the oldest first. Of two keys there are rows in two lists, and one key is null.
 const LISTS: &[&str] = &["\\N,3\n1,5\n2,7", "", "1,6\n2,\\N\n3,\\N"];
 
-// A model with the role of its second column, its lists, queries over them, and how often a row is looked at for each.
+// A model with the role of its second column, its lists, how many rising keys stand in one list more, queries over them, and how often
+// a row is looked at for each.
 pub struct Case {
     pub model: Model,
     pub role: Role,
     pub lists: &'static [&'static str],
+    pub rising: i64,
     pub queries: &'static [(&'static str, &'static str)],
     pub looks: usize,
 }
@@ -21,7 +23,6 @@ const DUPLICATE: &[(&str, &str)] = &[
         "k INT,v BIGINT;\\N,3;1,5;1,6;2,\\N;2,7;3,\\N;",
     ),
     ("SELECT v FROM t WHERE k = 1", "v BIGINT;5;6;"),
-    ("SELECT k FROM t WHERE v IS NULL", "k INT;2;3;"),
     ("SELECT k FROM t WHERE v <> 5", "k INT;\\N;1;2;"),
     (
         "SELECT * FROM t ORDER BY k DESC LIMIT 3",
@@ -42,10 +43,6 @@ const DUPLICATE: &[(&str, &str)] = &[
         "sum(v) BIGINT,k INT,min(v) BIGINT,max(v) BIGINT;\\N,3,\\N,\\N;7,2,7,7;11,1,5,6;3,\\N,3,3;",
     ),
     ("SELECT k FROM t GROUP BY k, v", "k INT;\\N;1;1;2;2;3;"),
-    (
-        "SELECT COUNT(*), SUM(v) FROM t WHERE k = 9",
-        "count(*) BIGINT,sum(v) BIGINT;0,\\N;",
-    ),
 ];
 
 const REFUSED: &[(&str, &str)] = &[
@@ -121,55 +118,104 @@ const LIMITED: &[(&str, &str)] = &[
     ),
 ];
 
+// No row of the first list has a null value.
+const ONE_LIST: &[(&str, &str)] = &[("SELECT k FROM t WHERE v IS NULL", "k INT;2;3;")];
+
+// A key is null in the first list alone.
+const NULL_KEY: &[(&str, &str)] = &[("SELECT * FROM t WHERE k IS NULL", "k INT,v BIGINT;\\N,3;")];
+
+const NO_LIST: &[(&str, &str)] = &[(
+    "SELECT COUNT(*), SUM(v) FROM t WHERE k = 9",
+    "count(*) BIGINT,sum(v) BIGINT;0,\\N;",
+)];
+
+// The keys 1 to 3,000 stand in blocks of 1,024, so that key 2,049 is the first of the third.
+const LAST_BLOCK: &[(&str, &str)] = &[(
+    "SELECT COUNT(*), MIN(k) FROM t WHERE k >= 2049",
+    "count(*) BIGINT,min(k) INT;952,2049;",
+)];
+
+const NO_KEY: &[(&str, &str)] = &[(
+    "SELECT COUNT(*), MIN(k) FROM t WHERE v >= 2049",
+    "count(*) BIGINT,min(k) INT;952,2049;",
+)];
+
+const DUPLICATE_CASE: Case = Case {
+    model: Model::Duplicate,
+    role: Role::Plain,
+    lists: LISTS,
+    rising: 0,
+    queries: DUPLICATE,
+    looks: 6,
+};
+
 const CASES: &[Case] = &[
+    DUPLICATE_CASE,
     Case {
-        model: Model::Duplicate,
-        role: Role::Plain,
-        lists: LISTS,
-        queries: DUPLICATE,
-        looks: 6,
+        queries: ONE_LIST,
+        looks: 3,
+        ..DUPLICATE_CASE
     },
     Case {
-        model: Model::Duplicate,
-        role: Role::Plain,
-        lists: LISTS,
+        queries: NO_LIST,
+        looks: 0,
+        ..DUPLICATE_CASE
+    },
+    Case {
         queries: REFUSED,
         looks: 0,
+        ..DUPLICATE_CASE
     },
     Case {
         model: Model::Unique,
-        role: Role::Plain,
-        lists: LISTS,
         queries: UNIQUE,
-        looks: 6,
+        ..DUPLICATE_CASE
     },
     Case {
         model: Model::Aggregate,
         role: Role::Agg(AggKind::Sum),
-        lists: LISTS,
         queries: AGGREGATE,
-        looks: 6,
+        ..DUPLICATE_CASE
     },
     Case {
-        model: Model::Duplicate,
-        role: Role::Plain,
         lists: &["", ""],
         queries: EMPTY,
         looks: 0,
+        ..DUPLICATE_CASE
     },
     Case {
-        model: Model::Duplicate,
-        role: Role::Plain,
         lists: MANY_ROWS,
         queries: LIMITED,
         looks: 45,
+        ..DUPLICATE_CASE
     },
     Case {
         model: Model::Unique,
-        role: Role::Plain,
         lists: &[],
         queries: EMPTY,
         looks: 0,
+        ..DUPLICATE_CASE
+    },
+    Case {
+        model: Model::Unique,
+        queries: NULL_KEY,
+        looks: 3,
+        ..DUPLICATE_CASE
+    },
+    Case {
+        lists: &[],
+        rising: 3000,
+        queries: LAST_BLOCK,
+        looks: 952,
+        ..DUPLICATE_CASE
+    },
+    Case {
+        model: Model::Aggregate,
+        role: Role::Agg(AggKind::Sum),
+        lists: &[],
+        rising: 3000,
+        queries: NO_KEY,
+        looks: 3000,
     },
 ];
 

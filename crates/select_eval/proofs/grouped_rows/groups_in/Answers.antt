@@ -1,7 +1,7 @@
 use Rattle.std.proofs.Common.{◌∙◌, ap, sym}
 use Rattle.select_eval.specs.Grouping.{put, put_all}
 use Rattle.select_eval.specs.Passing.{still_passing}
-use Rattle.select_eval.proofs.output_rows.groups_in.Goals as goal
+use Rattle.select_eval.proofs.grouped_rows.groups_in.Goals as goal
 
 pub rows-preserved : goal.rows-preserved
 rows-preserved g c =
