@@ -12,7 +12,8 @@ use Rattle.labels.specs.declared.txn_state.TxnState.TheVariants as state
 use Rattle.schema_models.specs.Faults.{refuse_if, first_of}
 use Rattle.schema_models.specs.Names.{is_name}
 use Rattle.schema_models.specs.ShapeRules.{shape_fault}
-use Rattle.sql_text.specs.declared.plain_def.PlainDef.{PlainDef}
+use Rattle.sql_text.specs.declared.part.Part.{Part}
+use Rattle.sql_text.specs.declared.table_def.TableDef.{TableDef}
 use Rattle.table_defs.specs.declared.def_error.DefError.{DefError}
 use Rattle.table_defs.specs.declared.def_error.DefError.TheVariants as def_error
 use Rattle.wide_defs.specs.declared.event.Event.{Event}
@@ -31,7 +32,9 @@ use Rattle.wide_defs.specs.Ids.{live_of, range_of, next_of, told_ids, range_size
 use Rattle.wide_defs.specs.Catalogue.{has_db, is_named, table_named, table_at, db_in, db_of, databases_of, tables_of}
 use Rattle.wide_defs.specs.Transactions.{is_prepare, is_precommitted, is_aborted, sweeps_told, txn_at, txn_by, holds, label_of, due, txns_of}
 use Rattle.wide_defs.specs.Stored.{AreRowsOf}
-use Rattle.wide_defs.specs.Defines.{shape_by, layout_by, buckets_by, key_fault, layout_fault, def_fault, unknown_in, no_key_in, is_duplicate}
+use Rattle.table_defs.specs.Columns.{shape_of}
+use Rattle.table_defs.specs.Defined.{columns_fault, def_fault, key_fault, layout_faults, layout_of}
+use Rattle.table_defs.specs.Parts.{buckets_of, part_of, parts_of}
 use Rattle.schema_models.specs.ShapeView.{ShapeView}
 use Rattle.schema_models.specs.declared.model.Model.{Model}
 use Rattle.schema_models.specs.declared.model.Model.TheVariants as model
@@ -40,8 +43,10 @@ use Rattle.std.proofs.Common.{length-append, append-nil, append_assoc}
 use Rattle.dl_values.specs.declared.col_type.ColType.{ColType}
 use Rattle.partitions.specs.LayoutView.{LayoutView, whole}
 use Rattle.partitions.specs.declared.part_def.PartDef.{PartDef}
-use Rattle.partitions.specs.LayoutRules.{IsLayout, add_fault, are_apart, column_type, fit_after, fits_behind, is_column_name, is_key_name, is_range, may_hash, parts_fit, ranges_type, type_under, with_part, with_range}
-use Rattle.partitions.specs.declared.layout_error.LayoutError.TheVariants as layout_error
+use Rattle.partitions.specs.LayoutFaults.{add_fault, layout_fault}
+use Rattle.partitions.specs.LayoutRules.{IsLayout}
+use Rattle.partitions.specs.Ranges.{with_range}
+use Rattle.partitions.proofs.Valid.{added_valid, defined_valid}
 use Rattle.wide_defs.specs.Answer.{add_alter_refusals, busy_by, busy_in, give_refusals, refused_part, commit_refusals, most, label_for, bad_label, used, refused_by, refused_def, submit_refusals, abort_refusals, refusals}
 use Rattle.wide_defs.specs.History.{adds_job, cancels, cancels_job, gives, takes, is_told, journal, new_range, begins, submits, aborts, publishes, commits, drops, adds_part, swept_by, acted}
 use Rattle.wide_defs.specs.Journal.{There, IsLiveJob, is_load_label}
@@ -83,8 +88,8 @@ pub mapped_none : {X Y : Type 0} (f : X → Y) (o : Option X) → option_map f o
 mapped_none f None h = refl
 mapped_none f (Some x) h = absurd (cc)
 
-def_accepted : (def : PlainDef) → refused_def def ≡ None → def_fault def ≡ None
-def_accepted def h = go (def_fault def) h
+def_accepted : (table : List ℕ) (def : TableDef) → refused_def table def ≡ None → def_fault table def ≡ None
+def_accepted table def h = go (def_fault table def) h
   where
     go : (o : Option DefError) → refused_by o ≡ None → o ≡ None
     go None h = refl
@@ -94,31 +99,9 @@ pub some_of : {X : Type 0} (o : Option X) → is_none o ≡ false → (x : X) ×
 some_of None h = absurd (cc)
 some_of (Some x) h = (x, refl)
 
--- A layout of one partition that nothing is wrong with is valid.
-none_found : {X : Type 0} (p : X → Bool) (xs : List X) → find (λ x. not (p x)) xs ≡ None → list_all p xs ≡ true
-none_found p [] h = refl
-none_found p (x ∷ xs) h = go (p x) refl h (none_found p xs)
-  where
-    go : (b : Bool) → p x ≡ b → cond (not b) (Some x) (find (λ y. not (p y)) xs) ≡ None → (find (λ y. not (p y)) xs ≡ None → list_all p xs ≡ true) → (p x && list_all p xs) ≡ true
-    go true e k rest = rw e (rest k)
-    go false e k rest = absurd (cc)
-
-may_be_hashed : (m : Model) (s : ShapeView) → s.model ≡ m → (hash : List (List ℕ)) → unknown_in s.columns hash ≡ None → cond (is_duplicate m) None (find (λ n. not (is_key_name s.columns n)) hash) ≡ None → list_all (may_hash m s.columns) hash ≡ true
-may_be_hashed model.Duplicate s e hash u k = none_found (is_column_name s.columns) hash u
-may_be_hashed model.Unique s e hash u k = none_found (is_key_name s.columns) hash k
-may_be_hashed model.Aggregate s e hash u k = none_found (is_key_name s.columns) hash k
-
-whole_layout : (table : List ℕ) (s : ShapeView) (hash : List (List ℕ)) (buckets : ℕ) → is_name table ≡ true → layout_fault s hash buckets ≡ None → IsLayout s (whole table hash buckets)
-whole_layout table s hash buckets named h =
-    let a = none_first (option_map layout_error.NoColumn (unknown_in s.columns hash)) _ h in
-    let b = none_first (option_map layout_error.NotAKey (no_key_in s hash)) _ a.1 in
-    let c = none_first (refuse_if (not (nat_le 1 buckets && nat_le buckets 64)) layout_error.BadBuckets) [] b.1 in
-    record {
-      hash = may_be_hashed s.model s refl hash (mapped_none layout_error.NoColumn (unknown_in s.columns hash) a.0) (mapped_none layout_error.NotAKey (no_key_in s hash) b.0);
-      buckets = not_false (nat_le 1 buckets && nat_le buckets 64) (not_refused (not (nat_le 1 buckets && nat_le buckets 64)) layout_error.BadBuckets c.0);
-      parts = rw named refl;
-      few = refl;
-    }
+-- the layout of a definition that nothing is wrong with is valid
+laid_out : (table : List ℕ) (def : TableDef) → layout_faults table def ≡ None → IsLayout (shape_of def) (layout_of table def)
+laid_out table def h = defined_valid (shape_of def) (parts_of table (shape_of def).columns def.ranges) def.hash (buckets_of def.buckets) (mapped_none def_error.Layout (layout_fault (shape_of def) (parts_of table (shape_of def).columns def.ranges) def.hash (buckets_of def.buckets)) h)
 
 -- one event, or none
 one_event : (e : Event) (Es : List Event) (b : Bool) → b ≡ false → HappenAll (e ∷ []) Es → HappenAll (cond b [] (e ∷ [])) Es
@@ -352,6 +335,7 @@ submits_now Es id rows at x k a f is shaped =
     let key_is : label_key x ≡ (db_of x.table (tables_of Es), x.label) = ap (λ (z : List ℕ). (z, x.label)) (sym (home_db (table_at x.table (tables_of Es)) x.db x.schema home)) in
     let i : x.id ≡ id = found_id id (txns_of Es) x f in (
       record {
+        first = each_found (λ u. 1 ≤ u.id) same_id (txns_of Es) x k.from f;
         from = open_from Es x same_id a f (ap is_open is);
         cancels = record { lives = spoiled_lives (jobs_of Es) x.table (tables_of Es) (table_at x.table (tables_of Es)) rows a.numbers refl; spoils = inr refl };
         below = each_found (λ u. u.id < next_of Es) same_id (txns_of Es) x k.below f;
@@ -420,50 +404,9 @@ drop_happens Es db table at None k f = tt
 drop_happens Es db table at (Some t) k f = ((t, key_found (λ (b : Table). b.number) (is_named db table) (tables_of Es) t k.numbers f), tt, tt)
 
 -- AddPartition
-fit_snoc : (t : Option ColType) (before ps : List PartDef) (p : PartDef) → fit_after t before ps ≡ true → fits_behind t (before ++ ps) p ≡ true → fit_after t before (ps ++ p ∷ []) ≡ true
-fit_snoc t before [] p f g = let e : fits_behind t before p ≡ true = subst (λ (l : List PartDef). fits_behind t l p ≡ true) (append-nil before) g in rw e refl
-fit_snoc t before (q ∷ ps) p f g =
-    let e = and_left (fits_behind t before q) (fit_after t (before ++ q ∷ []) ps) f in
-    rw e (fit_snoc t (before ++ q ∷ []) ps p (and_both (fits_behind t before q) (fit_after t (before ++ q ∷ []) ps) f) (subst (λ (l : List PartDef). fits_behind t l p ≡ true) (sym (append_assoc before (q ∷ []) ps)) g))
-  where
-    and_both : (a b : Bool) → (a && b) ≡ true → b ≡ true
-    and_both true b h = h
-    and_both false b h = absurd (cc)
-
 and_right : (a b : Bool) → (a && b) ≡ true → b ≡ true
 and_right true b h = h
 and_right false b h = absurd (cc)
-
-parts_more : (s : ShapeView) (column : Option (List ℕ)) (parts : List PartDef) (p : PartDef) → is_none column ≡ false → parts_fit s.columns column parts ≡ true → fits_behind (column_type s.columns column) parts p ≡ true → parts_fit s.columns column (parts ++ p ∷ []) ≡ true
-parts_more s None parts p n f g = absurd (cc)
-parts_more s (Some name) parts p n f g =
-    let a = is_key_name s.columns name && ranges_type (type_under s.columns name) in
-    let e : a ≡ true = and_left a (fit_after (type_under s.columns name) [] parts) f in
-    rw e (fit_snoc (type_under s.columns name) [] parts p (and_right a (fit_after (type_under s.columns name) [] parts) f) g)
-
-few_more : (parts : List PartDef) (p : PartDef) → nat_le 1000 (length parts) ≡ false → nat_le (length (parts ++ p ∷ [])) 1000 ≡ true
-few_more parts p h = let n = length-append parts (p ∷ []) in grind (arith, nat_tests)
-
-four : (a b c d : Bool) → a ≡ true → b ≡ true → c ≡ false → d ≡ true → (a && b && not c && d) ≡ true
-four a b c d e f g h = rw (e, f, g, h) refl
-
-more_layout : (s : ShapeView) (l : LayoutView) (p : PartDef) → IsLayout s l → add_fault s l p ≡ None → IsLayout s (with_part p l)
-more_layout s l p v h =
-    let a = none_first (refuse_if (is_none l.column) layout_error.NotPartitioned) _ h in
-    let b = none_first (refuse_if (not (is_range (column_type s.columns l.column) p.bounds)) (layout_error.BadBound p.name)) _ a.1 in
-    let c = none_first (refuse_if (not (is_name p.name)) (layout_error.BadName p.name)) _ b.1 in
-    let d = none_first (refuse_if (list_any (λ (q : PartDef). bytes_eq q.name p.name) l.parts) (layout_error.DoubleName p.name)) _ c.1 in
-    let e = none_first (refuse_if (not (list_all (λ (q : PartDef). are_apart q.bounds p.bounds) l.parts)) (layout_error.Overlap p.name)) _ d.1 in
-    let f = none_first (refuse_if (nat_le 1000 (length l.parts)) layout_error.TooManyPartitions) [] e.1 in
-    record {
-      hash = v.hash;
-      buckets = v.buckets;
-      parts = parts_more s l.column l.parts p (not_refused (is_none l.column) layout_error.NotPartitioned a.0) v.parts
-          (four (is_range (column_type s.columns l.column) p.bounds) (is_name p.name) (list_any (λ (q : PartDef). bytes_eq q.name p.name) l.parts) (list_all (λ (q : PartDef). are_apart q.bounds p.bounds) l.parts)
-          (not_false _ (not_refused (not (is_range (column_type s.columns l.column) p.bounds)) (layout_error.BadBound p.name) b.0)) (not_false _ (not_refused (not (is_name p.name)) (layout_error.BadName p.name) c.0))
-          (not_refused (list_any (λ (q : PartDef). bytes_eq q.name p.name) l.parts) (layout_error.DoubleName p.name) d.0) (not_false _ (not_refused (not (list_all (λ (q : PartDef). are_apart q.bounds p.bounds) l.parts)) (layout_error.Overlap p.name) e.0)));
-      few = few_more l.parts p (not_refused (nat_le 1000 (length l.parts)) layout_error.TooManyPartitions f.0);
-    }
 
 find_none : {X : Type 0} (p : X → Bool) (xs : List X) → find p xs ≡ None → list_any p xs ≡ false
 find_none p [] h = refl
@@ -480,13 +423,13 @@ no_live table jobs h = find_none (is_live_of table) jobs (go (live_job table job
     go None h = refl
     go (Some j) h = absurd (cc)
 
-add_happens : (Es : List Event) (db table : List ℕ) (part : PartDef) (o : Option Table) → Tidy Es → table_named db table (tables_of Es) ≡ o → busy_in o (jobs_of Es) ≡ None → refused_part part o ≡ None → HappenAll (adds_part part o) Es
+add_happens : (Es : List Event) (db table : List ℕ) (part : Part) (o : Option Table) → Tidy Es → table_named db table (tables_of Es) ≡ o → busy_in o (jobs_of Es) ≡ None → refused_part part o ≡ None → HappenAll (adds_part part o) Es
 add_happens Es db table part None k f b h = tt
 add_happens Es db table part (Some t) k f b h =
-    let p = with_range t.layout.parts part in
+    let p = part_of t.layout.kind part in
     let found = key_found (λ (b : Table). b.number) (is_named db table) (tables_of Es) t k.numbers f in
     let laid = each_found (λ (b : Table). IsLayout b.shape b.layout) (is_named db table) (tables_of Es) t k.laid f in
-    ((no_live t.number (jobs_of Es) b, (t, found, more_layout t.shape t.layout p laid (mapped_none reply.BadPartition (add_fault t.shape t.layout p) h))), tt, tt)
+    ((no_live t.number (jobs_of Es) b, (t, found, added_valid t.shape t.layout p laid (mapped_none reply.BadPartition (add_fault t.layout p) h))), tt, tt)
 
 -- Sweep
 sweep_happens : (Es : List Event) (at : ℕ) (b : Bool) → (list_any (sweeps_told at) (txns_of Es) || list_any (is_job_over at) (jobs_of Es)) ≡ b → HappenAll (swept_by at b) Es
@@ -637,19 +580,19 @@ acted_happens Es (command.CreateTable db table def if_not_exists) k al shaped h 
     let b = none_first (refuse_if (is_some (table_named db table (tables_of Es))) (cond if_not_exists reply.Done reply.TableExists)) _ a.1 in
     let c = none_first (refuse_if (not (is_name table)) reply.BadName) _ b.1 in
     let e = none_first (refuse_if (nat_le most (length (tables_of Es))) reply.TooManyTables) _ c.1 in
-    let f = none_first (refused_def def) [] e.1 in
-    let g = none_first (key_fault def) _ (def_accepted def f.0) in
-    let i = none_first (option_map def_error.Shape (shape_fault (shape_by def).model (shape_by def).columns)) _ g.1 in
-    let j = none_first (option_map def_error.Layout (layout_fault (shape_by def) def.hash (buckets_by def))) [] i.1 in
+    let f = none_first (refused_def table def) [] e.1 in
+    let g = none_first (option_map def_error.Shape (key_fault def)) _ (def_accepted table def f.0) in
+    let i = none_first (columns_fault def) _ g.1 in
+    let j = none_first (layout_faults table def) _ i.1 in
     let new = not_refused (is_some (table_named db table (tables_of Es))) (cond if_not_exists reply.Done reply.TableExists) b.0 in
-    one_event (event.TableMade (record { db = db; name = table; shape = shape_by def; layout = layout_by table def })) Es (is_some (table_named db table (tables_of Es))) new (
+    one_event (event.TableMade (record { db = db; name = table; shape = shape_of def; layout = layout_of table def })) Es (is_some (table_named db table (tables_of Es))) new (
       record {
         known = not_false (has_db db (databases_of Es)) (not_refused (not (has_db db (databases_of Es))) reply.UnknownDb a.0);
         named = not_false (is_name table) (not_refused (not (is_name table)) reply.BadName c.0);
         new = new;
         room = not_refused (nat_le most (length (tables_of Es))) reply.TooManyTables e.0;
-        shape = mapped_none def_error.Shape (shape_fault (shape_by def).model (shape_by def).columns) i.0;
-        layout = whole_layout table (shape_by def) def.hash (buckets_by def) (not_false (is_name table) (not_refused (not (is_name table)) reply.BadName c.0)) (mapped_none def_error.Layout (layout_fault (shape_by def) def.hash (buckets_by def)) j.0);
+        shape = mapped_none def_error.Shape (shape_fault (shape_of def).model (shape_of def).columns) i.0;
+        layout = laid_out table def j.0;
       },
       tt,
       tt,
@@ -701,14 +644,14 @@ kept_told (Some x) f g Es n k h = subst (λ (l : List Event). HappenAll (journal
 
 pub told_happens : (Es : List Event) (c : Command) → Tidy Es → Alters Es → Shaped Es c → first_of (refusals Es c) ≡ None → HappenAll (journal (acted Es c)) Es
 told_happens Es (command.CreateDb name if_not_exists) k al shaped h = event_told Es (event.DbMade (record { name = name })) (has_db name (databases_of Es)) (acted_happens Es (command.CreateDb name if_not_exists) k al shaped h)
-told_happens Es (command.CreateTable db table def if_not_exists) k al shaped h = event_told Es (event.TableMade (record { db = db; name = table; shape = shape_by def; layout = layout_by table def })) (is_some (table_named db table (tables_of Es))) (acted_happens Es (command.CreateTable db table def if_not_exists) k al shaped h)
+told_happens Es (command.CreateTable db table def if_not_exists) k al shaped h = event_told Es (event.TableMade (record { db = db; name = table; shape = shape_of def; layout = layout_of table def })) (is_some (table_named db table (tables_of Es))) (acted_happens Es (command.CreateTable db table def if_not_exists) k al shaped h)
 told_happens Es (command.Begin db table label two_phase at) k al shaped h = subst (λ (l : List Event). HappenAll l Es) (sym (begin_told Es label two_phase at (table_named db table (tables_of Es)))) (ranged Es)
 told_happens Es (command.Submit txn built at) k al shaped h = kept_told (txn_at txn (txns_of Es)) (submits built.rows at (tables_of Es) (jobs_of Es)) (λ x. event.LoadSubmitted (load_now built.rows at (tables_of Es) (jobs_of Es) x)) Es refl (λ x. refl) (acted_happens Es (command.Submit txn built at) k al shaped h)
 told_happens Es (command.Publish at) k al shaped h = kept_told (due (txns_of Es)) (publishes at) (λ x. event.LoadPublished (record { txn = x.id; at = at })) Es refl (λ x. refl) (acted_happens Es (command.Publish at) k al shaped h)
 told_happens Es (command.Abort db txn at) k al shaped h = kept_told (txn_by db txn (txns_of Es)) (aborts at) (λ x. cond x.told (event.TxnAborted (record { txn = x.id; at = at })) (event.TxnEnded (record { txn = x.id; at = at }))) Es refl (λ x. refl) (acted_happens Es (command.Abort db txn at) k al shaped h)
 told_happens Es (command.Snapshot db table query) k al shaped h = tt
 told_happens Es (command.DropTable db table if_exists at) k al shaped h = kept_told (table_named db table (tables_of Es)) (drops at) (λ x. event.TableDropped (record { table = x.number; at = at })) Es refl (λ x. refl) (acted_happens Es (command.DropTable db table if_exists at) k al shaped h)
-told_happens Es (command.AddPartition db table part) k al shaped h = kept_told (table_named db table (tables_of Es)) (adds_part part) (λ x. event.PartAdded (record { table = x.number; part = with_range x.layout.parts part })) Es refl (λ x. refl) (acted_happens Es (command.AddPartition db table part) k al shaped h)
+told_happens Es (command.AddPartition db table part) k al shaped h = kept_told (table_named db table (tables_of Es)) (adds_part part) (λ x. event.PartAdded (record { table = x.number; part = with_range x.layout.parts (part_of x.layout.kind part) })) Es refl (λ x. refl) (acted_happens Es (command.AddPartition db table part) k al shaped h)
 told_happens Es (command.Commit db txn at) k al shaped h = kept_told (txn_by db txn (txns_of Es)) (commits at (tables_of Es) (jobs_of Es)) (λ x. event.LoadCommitted (record { txn = x.id; at = at; cancelled = spoiled_by (jobs_of Es) (table_at x.table (tables_of Es)) x.rows })) Es refl (λ x. refl) (acted_happens Es (command.Commit db txn at) k al shaped h)
 told_happens Es (command.Sweep at) k al shaped h = swept_told Es at (list_any (sweeps_told at) (txns_of Es) || list_any (is_job_over at) (jobs_of Es)) (acted_happens Es (command.Sweep at) k al shaped h)
 told_happens Es (command.AddAlter db table def at) k al shaped h = kept_told (table_named db table (tables_of Es)) (adds_job (change_by def) at (last_job_of Es)) (λ x. event.JobAdded (record { job = last_job_of Es + 1; table = x.number; at = at; change = change_by def })) Es refl (λ x. refl) (acted_happens Es (command.AddAlter db table def at) k al shaped h)

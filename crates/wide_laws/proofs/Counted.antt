@@ -4,7 +4,7 @@ use Rattle.std.proofs.lemmas.List.Elements.{filter-append}
 use Rattle.std.specs.Prelude.{nat_eq}
 use Rattle.std.specs.Option.{option_map}
 use Rattle.dl_values.specs.declared.cell.Cell.{Cell}
-use Rattle.partitions.specs.LayoutRules.{with_part}
+use Rattle.partitions.specs.LayoutFaults.{with_part}
 use Rattle.partitions.specs.Places.{AreInside}
 use Rattle.wide_defs.specs.declared.event.Event.{Event}
 use Rattle.wide_defs.specs.declared.event.Event.TheVariants as event
@@ -53,12 +53,12 @@ made_counts table y (b ∷ bs) loads v h = go (nat_eq b.number table) h (made_co
 same_counts : (t : Table) (a : PartAdded) (part : ℕ) (loads : List Rows) → Each (AreInside t.layout) loads → filter (touches (record t { layout = with_part a.part t.layout }) part) loads ≡ filter (touches t part) loads
 same_counts t a part [] e = refl
 same_counts t a part (l ∷ ls) e =
-    ap (λ (b : Bool). cond b (l ∷ filter (touches (record t { layout = with_part a.part t.layout }) part) ls) (filter (touches (record t { layout = with_part a.part t.layout }) part) ls)) (lies_stay t.shape t.layout a.part part l e.0) ∙ ap (λ (x : List Rows). cond (touches t part l) (l ∷ x) x) (same_counts t a part ls e.1)
+    ap (λ (b : Bool). cond b (l ∷ filter (touches (record t { layout = with_part a.part t.layout }) part) ls) (filter (touches (record t { layout = with_part a.part t.layout }) part) ls)) (lies_stay t.layout a.part part l e.0) ∙ ap (λ (x : List Rows). cond (touches t part l) (l ∷ x) x) (same_counts t a part ls e.1)
 
 part_counts : (a : PartAdded) (o : Option Table) (loads : List Rows) (v : ℕ → ℕ) → CountsLoads o loads v → CountsLoads (option_map (part_added a) o) loads v
 part_counts a None loads v h = h
 part_counts a (Some t) loads v h = elim (nat_eq t.number a.table) as (λ (c : Bool). CountsLoads (Some (cond c (record t { layout = with_part a.part t.layout }) t)) loads v) [
-  | true ↦ (each_imp (AreInside t.layout) (AreInside (with_part a.part t.layout)) (λ l k. inside_more t.shape t.layout a.part l k) loads h.0, λ part. h.1 part ∙ ap (λ (x : List Rows). 1 + length x) (sym (same_counts t a part loads h.0)))
+  | true ↦ (each_imp (AreInside t.layout) (AreInside (with_part a.part t.layout)) (λ l k. inside_more t.layout a.part l k) loads h.0, λ part. h.1 part ∙ ap (λ (x : List Rows). 1 + length x) (sym (same_counts t a part loads h.0)))
   | false ↦ h
 ]
 

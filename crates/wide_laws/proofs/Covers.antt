@@ -6,7 +6,7 @@ use Rattle.std.specs.Prelude.{nat_eq, nat_lt}
 use Rattle.std.specs.Option.{option_map}
 use Rattle.labels.specs.declared.txn_state.TxnState.{TxnState}
 use Rattle.labels.specs.declared.txn_state.TxnState.TheVariants as state
-use Rattle.partitions.specs.LayoutRules.{with_part}
+use Rattle.partitions.specs.LayoutFaults.{with_part}
 use Rattle.partitions.specs.LayoutView.{LayoutView}
 use Rattle.row_map.specs.Maps.{rollup_map}
 use Rattle.row_map.specs.declared.map.RowMap.{RowMap}

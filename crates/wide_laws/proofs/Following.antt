@@ -15,7 +15,8 @@ use Rattle.wide_defs.specs.Names.{same}
 use Rattle.wide_defs.specs.Ids.{range_of, told_ids, range_size}
 use Rattle.wide_defs.specs.Catalogue.{has_db, table_named, table_at, db_in, db_of, tables_of}
 use Rattle.wide_defs.specs.Transactions.{is_committed, is_aborted, sweeps, sweeps_told, txn_at, holds, has_lower, place_of, due, txns_of}
-use Rattle.partitions.specs.LayoutRules.{IsLayout, with_part}
+use Rattle.partitions.specs.LayoutFaults.{with_part}
+use Rattle.partitions.specs.LayoutRules.{IsLayout}
 use Rattle.wide_defs.specs.Stored.{AreRowsOf}
 use Rattle.wide_defs.specs.Answer.{most}
 use Rattle.wide_defs.specs.History.{is_told}
@@ -172,9 +173,9 @@ in_told Es id w t f is =
     match_is (txn_at id (filter (λ x. x.told) (txns_of Es))) w (λ x. x.state ≡ state.Precommitted)
     (sym (opening.found_told id (txns_of Es) (some_is (txn_at id (txns_of Es)) w (λ u. u.told ≡ true) f told)) ∙ f) is
 
-load_follows : (Gs : List Event) (s : LoadSubmitted) (o : Option Table) → There o (λ b. (b.schema ≡ s.schema) × AreRowsOf b.shape b.layout s.rows) → s.txn ≤ range_of Gs → list_any (nat_eq s.txn) (told_ids Gs) ≡ false → is_load_label s.txn s.label ≡ true → list_any (hinders s.txn (db_in o) s.label) (txns_of Gs) ≡ false → IfSome s.cancelled (IsLiveJob (jobs_of Gs) s.table) → There o (FollowsLoad Gs s)
-load_follows Gs s None h within new label free c = h
-load_follows Gs s (Some b) h within new label free c = record { cancels = c; within = within; new = new; label = label; free = free; schema = sym h.0; rows = h.1 }
+load_follows : (Gs : List Event) (s : LoadSubmitted) (o : Option Table) → There o (λ b. (b.schema ≡ s.schema) × AreRowsOf b.shape b.layout s.rows) → 1 ≤ s.txn → s.txn ≤ range_of Gs → list_any (nat_eq s.txn) (told_ids Gs) ≡ false → is_load_label s.txn s.label ≡ true → list_any (hinders s.txn (db_in o) s.label) (txns_of Gs) ≡ false → IfSome s.cancelled (IsLiveJob (jobs_of Gs) s.table) → There o (FollowsLoad Gs s)
+load_follows Gs s None h from within new label free c = h
+load_follows Gs s (Some b) h from within new label free c = record { cancels = c; from = from; within = within; new = new; label = label; free = free; schema = sym h.0; rows = h.1 }
 
 -- Jobs after an opening.
 live_reopened : (table : ℕ) (js : List JobInfo) → has_live table (map reopened_job js) ≡ has_live table js
@@ -275,7 +276,7 @@ follows_on Es (event.TableMade m) told t a n h = record { known = h.known; named
 follows_on Es (event.RangeDrawn r) told t a n h = h
 follows_on Es (event.TxnBegun b) told t a n h = absurd (cc)
 follows_on Es (event.LoadSubmitted s) told t a n h =
-    load_follows (event.Opened ∷ Es) s (table_at s.table (tables_of Es)) h.home (let k = h.below in let w = t.within in omega (arith, k, w)) h.new h.label
+    load_follows (event.Opened ∷ Es) s (table_at s.table (tables_of Es)) h.home h.first (let k = h.below in let w = t.within in omega (arith, k, w)) h.new h.label
     (told_label s.txn (db_of s.table (tables_of Es)) s.label (txns_of Es) (told_ids Es) t.known h.new h.fits) (lives_reopened (jobs_of Es) s.table s.cancelled h.cancels.lives)
 follows_on Es (event.TxnAborted x) told t a n h = in_told Es x.txn h.0 t h.1 h.2
 follows_on Es (event.LoadPublished p) told t a n h = match_is (due (filter (λ x. x.told) (txns_of Es))) h.0 (λ x. x.id ≡ p.txn) (due_same (txns_of Es) t.tells ∙ h.1) h.2
@@ -298,6 +299,7 @@ follows_on Es (event.JobCancelled x) told t a n h = there_job x.job (jobs_of Es)
 
 load_same : (Gs Js : List Event) (s : LoadSubmitted) (b : Table) → Agrees Gs Js → FollowsLoad Gs s b → FollowsLoad Js s b
 load_same Gs Js s b a h = record {
+  from = h.from;
   cancels = subst (λ (l : List JobInfo). IfSome s.cancelled (IsLiveJob l s.table)) a.jobs h.cancels;
   within = subst (λ (n : ℕ). s.txn ≤ n) a.range h.within;
   new = subst (λ (l : List ℕ). list_any (nat_eq s.txn) l ≡ false) a.told h.new;

@@ -5,7 +5,8 @@ use Rattle.std.specs.Prelude.{nat_eq, nat_lt, map, filter, is_some}
 use Rattle.dl_values.specs.declared.cell.Cell.{Cell}
 use Rattle.schema_models.specs.ShapeView.{ShapeView}
 use Rattle.partitions.specs.LayoutView.{LayoutView}
-use Rattle.partitions.specs.LayoutRules.{IsLayout, with_part}
+use Rattle.partitions.specs.LayoutFaults.{with_part}
+use Rattle.partitions.specs.LayoutRules.{IsLayout}
 use Rattle.partitions.specs.Places.{AreInside}
 use Rattle.partitions.proofs.Places.{place_stays}
 use Rattle.wide_defs.specs.declared.event.PartAdded.{PartAdded}
@@ -62,7 +63,7 @@ good_on (e ∷ new) Es h g = good_one e (new ++ Es) h.0 (good_on new Es h.2 g)
 
 pub empty_good : Good []
 empty_good = record {
-  tidy = record { tells = tt; ascends = tt; labels = tt; below = tt; known = tt; homes = tt; labelled = tt; laid = tt; used = tt; ids = tt; within = omega arith; spent = omega arith; numbers = tt; numbered = tt };
+  tidy = record { tells = tt; ascends = tt; labels = tt; below = tt; known = tt; homes = tt; labelled = tt; from = tt; laid = tt; used = tt; ids = tt; within = omega arith; spent = omega arith; numbers = tt; numbered = tt };
   sound = tt;
   alters = record { numbers = tt; numbered = tt; alone = tt; marked = tt; settled = tt };
 }
@@ -89,7 +90,7 @@ planned_later last y tables x base layout n u h =
 
 -- a partition more keeps the places of rows that have one
 planned_part : (a : PartAdded) (base : ShapeView) (layout : LayoutView) (b : Table) → IsPlanned base layout b → IsPlanned base layout (record b { layout = with_part a.part b.layout })
-planned_part a base layout b h = (h.0, λ s row k. place_stays s b.layout a.part row (ap is_some (h.1 s row k) ∙ k) ∙ h.1 s row k)
+planned_part a base layout b h = (h.0, λ row k. place_stays b.layout a.part row (ap is_some (h.1 row k) ∙ k) ∙ h.1 row k)
 
 planned_more : (a : PartAdded) (tables : List Table) (n : ℕ) (base : ShapeView) (layout : LayoutView) → IfSome (table_at n tables) (IsPlanned base layout) → IfSome (table_at n (map (part_added a) tables)) (IsPlanned base layout)
 planned_more a tables n base layout h = subst (λ (o : Option Table). IfSome o (IsPlanned base layout)) (sym (found_map (part_added a) (part_number a) n tables)) (part_if a (table_at n tables) (IsPlanned base layout) (planned_part a base layout) h)
@@ -167,13 +168,13 @@ no_cause c (Made x ∷ H) a h = a
 abbrev pub Plans : List Entry → Type 0
 Plans H = (txn : ℕ) (built : Built) (at : ℕ) → HasCause (command.Submit txn built at) H → PlanHolds (happened H) txn built.plan.base built.plan.layout × AreRowsOf built.plan.base built.plan.layout built.rows
 
-inside_later : (s : ShapeView) (l k : LayoutView) (rows : List (List Cell)) → KeepsPlaces l k → AreInside l rows → AreInside k rows
-inside_later s l k [] h a = tt
-inside_later s l k (r ∷ rs) h a = (ap is_some (h s r a.0) ∙ a.0, inside_later s l k rs h a.1)
+inside_later : (l k : LayoutView) (rows : List (List Cell)) → KeepsPlaces l k → AreInside l rows → AreInside k rows
+inside_later l k [] h a = tt
+inside_later l k (r ∷ rs) h a = (ap is_some (h r a.0) ∙ a.0, inside_later l k rs h a.1)
 
 there_rows : (o : Option Table) (base : ShapeView) (layout : LayoutView) (rows : List (List Cell)) → IfSome o (IsPlanned base layout) → AreRowsOf base layout rows → IfSome o (λ b. AreRowsOf b.shape b.layout rows)
 there_rows None base layout rows h r = tt
-there_rows (Some b) base layout rows h r = subst (λ (s : ShapeView). AreRowsOf s b.layout rows) (sym h.0) (record { shaped = r.shaped; inside = inside_later base layout b.layout rows h.1 r.inside })
+there_rows (Some b) base layout rows h r = subst (λ (s : ShapeView). AreRowsOf s b.layout rows) (sym h.0) (record { shaped = r.shaped; inside = inside_later layout b.layout rows h.1 r.inside })
 
 -- The rows that a command carries are of its table, also after an opening.
 found_shape : (Es : List Event) (id : ℕ) (built : Built) (o : Option Txn) → txn_at id (txns_of Es) ≡ o → PlanHolds Es id built.plan.base built.plan.layout → AreRowsOf built.plan.base built.plan.layout built.rows → IfSome o (λ x. IfSome (table_at x.table (tables_of Es)) (λ b. AreRowsOf b.shape b.layout built.rows))
@@ -227,7 +228,7 @@ begun_here Es db table label two_phase at t g found =
     let n = next_of Es in
     let Gs = new_range Es ++ Es in
     let below = subst (λ (l : List Txn). Each (λ u. u.id < n) l) (sym (ranged_txns Es)) g.tidy.below in
-    let there = some_is (table_at t.number (tables_of Gs)) t (IsPlanned t.shape t.layout) (ap (table_at t.number) (ranged_tables Es) ∙ key_found (λ (b : Table). b.number) (is_named db table) (tables_of Es) t g.tidy.numbers found) (refl, λ s row h. refl) in
+    let there = some_is (table_at t.number (tables_of Gs)) t (IsPlanned t.shape t.layout) (ap (table_at t.number) (ranged_tables Es) ∙ key_found (λ (b : Table). b.number) (is_named db table) (tables_of Es) t g.tidy.numbers found) (refl, λ row h. refl) in
     record {
       begun = omega arith;
       shaped = each_snoc (OfShape (tables_of Gs) n t.shape t.layout) (txns_of Gs) (begun_txn (begun_now n label two_phase at t)) (each_imp (λ u. u.id < n) (OfShape (tables_of Gs) n t.shape t.layout) (λ u lt i. absurd (omega (arith, lt, i))) (txns_of Gs) below) (λ i. there);
@@ -388,6 +389,7 @@ told_fits id db label u h e =
 told_submits : (Es : List Event) (s : LoadSubmitted) (o : Option Table) → next_of Es ≡ range_of Es + 1 → NoneRuns (jobs_of Es) → table_at s.table (tables_of Es) ≡ o → There o (FollowsLoad Es s) → SubmitsNow Es s
 told_submits Es s None n q is h = absurd h
 told_submits Es s (Some b) n q is h = record {
+  first = h.from;
   from = none_from s.txn (jobs_of Es) q;
   cancels = record { lives = h.cancels; spoils = inl (none_running s.table (jobs_of Es) q) };
   below = let k = h.within in omega (arith, k, n);

@@ -3,13 +3,14 @@ use Rattle.std.proofs.Common.{◌≡◌, ℕ, Bool, true, false, cond, not, ◌&
 use Rattle.std.specs.Prelude.{◌+◌, nat_eq, nat_le, length, count_by}
 use Rattle.std.specs.List.{list_any}
 use Rattle.std.specs.Option.{option_map}
-use Rattle.partitions.specs.LayoutRules.{add_fault, with_range}
+use Rattle.partitions.specs.LayoutFaults.{add_fault}
+use Rattle.table_defs.specs.Parts.{part_of}
 use Rattle.partitions.specs.declared.layout_error.LayoutError.{LayoutError}
-use Rattle.partitions.specs.declared.part_def.PartDef.{PartDef}
 use Rattle.dl_values.specs.declared.cell.Cell.{Cell}
 use Rattle.schema_models.specs.Faults.{refuse_if, first_of}
 use Rattle.schema_models.specs.Names.{is_name}
-use Rattle.sql_text.specs.declared.plain_def.PlainDef.{PlainDef}
+use Rattle.sql_text.specs.declared.part.Part.{Part}
+use Rattle.sql_text.specs.declared.table_def.TableDef.{TableDef}
 use Rattle.table_defs.specs.declared.def_error.DefError.{DefError}
 use Rattle.wide_defs.specs.declared.event.Event.{Event}
 use Rattle.wide_defs.specs.declared.event.Event.TheVariants as event
@@ -25,7 +26,9 @@ use Rattle.wide_defs.specs.Refusals.{Answers}
 use Rattle.wide_defs.specs.Catalogue.{has_db, table_at, table_named, databases_of, tables_of}
 use Rattle.wide_defs.specs.Transactions.{is_prepare, is_precommitted, is_aborted, is_expired, is_over, sweeps, txn_at, txn_by, label_of, due, txns_of, places_of}
 use Rattle.wide_defs.specs.Stored.{base_of, stored_of, cost_of}
-use Rattle.wide_defs.specs.Defines.{shape_by, layout_by, def_fault}
+use Rattle.table_defs.specs.Columns.{shape_of}
+use Rattle.table_defs.specs.Defined.{def_fault, layout_of}
+use Rattle.wide_defs.specs.declared.alter_error.AlterError.{AlterError}
 use Rattle.wide_defs.specs.Answer.{refused_part, commit_refusals, CommittedFor, most, label_for, bad_label, used, refused_by, refused_def, submit_refusals, abort_refusals, refusals, plan_of, BegunFor, PublishedFor, AbortedFor, ShownFor, Shows, placed_for, Answer}
 use Rattle.wide_defs.specs.History.{drops, acted, Well, Refused, outcome}
 use Rattle.alter_core.specs.declared.job.JobInfo.{JobInfo}
@@ -56,8 +59,8 @@ refuse_some P false x p = tt
 abbrev Stays : List Event → Command → Reply → Type 0
 Stays Es c x = outcome x ≡ Well → acted Es c ≡ []
 
-def_stays : (Es : List Event) (c : Command) (def : PlainDef) → IfSome (refused_def def) (Stays Es c)
-def_stays Es c def = go (def_fault def)
+def_stays : (Es : List Event) (c : Command) (table : List ℕ) (def : TableDef) → IfSome (refused_def table def) (Stays Es c)
+def_stays Es c table def = go (def_fault table def)
   where
     go : (o : Option DefError) → IfSome (refused_by o) (Stays Es c)
     go None = tt
@@ -87,9 +90,9 @@ commit_stays : (Es : List Event) (c : Command) (at : ℕ) (known : Bool) (o : Op
 commit_stays Es c at known None = (refuse_some (Stays Es c) (not known) reply.UnknownDb (λ _ h. absurd (cc)), (λ h. absurd (cc), tt))
 commit_stays Es c at known (Some t) = (refuse_some (Stays Es c) (not known) reply.UnknownDb (λ _ h. absurd (cc)), (refuse_some (Stays Es c) (not (is_precommitted t.state)) (reply.WrongState t.state) (λ _ h. absurd (cc)), (refuse_some (Stays Es c) (nat_le (t.since + 3600) at) (reply.Expired t.since) (λ _ h. absurd (cc)), tt)))
 
-part_stays : (Es : List Event) (c : Command) (part : PartDef) (o : Option Table) → IfSome (refused_part part o) (Stays Es c)
+part_stays : (Es : List Event) (c : Command) (part : Part) (o : Option Table) → IfSome (refused_part part o) (Stays Es c)
 part_stays Es c part None = tt
-part_stays Es c part (Some t) = go (add_fault t.shape t.layout (with_range t.layout.parts part))
+part_stays Es c part (Some t) = go (add_fault t.layout (part_of t.layout.kind part))
   where
     go : (o : Option LayoutError) → IfSome (option_map reply.BadPartition o) (Stays Es c)
     go None = tt
@@ -112,17 +115,17 @@ busy_any P k (Some t) jobs = go (live_job t.number jobs)
     go None = tt
     go (Some j) = k j.job
 
-rolled_any : (P : Reply → Type 0) → ((e : DefError) → P (reply.BadAlter e)) → (o : Option DefError) → IfSome (option_map reply.BadAlter o) P
+rolled_any : (P : Reply → Type 0) → ((e : AlterError) → P (reply.BadAlter e)) → (o : Option AlterError) → IfSome (option_map reply.BadAlter o) P
 rolled_any P k None = tt
 rolled_any P k (Some e) = k e
 
-alter_any : (P : Reply → Type 0) → P reply.TooManyRollups → P reply.BadName → P reply.DoubleName → ((e : DefError) → P (reply.BadAlter e)) → (def : AlterDef) (o : Option Table) → IfSome (refused_alter def o) P
+alter_any : (P : Reply → Type 0) → P reply.TooManyRollups → P reply.BadName → P reply.DoubleName → ((e : AlterError) → P (reply.BadAlter e)) → (def : AlterDef) (o : Option Table) → IfSome (refused_alter def o) P
 alter_any P a b c d def None = tt
 alter_any P a b c d (alter.Rollup name columns) (Some t) =
     first_any P (rollup_refusals name columns t)
     (refuse_some P (nat_le most_rollups (length t.rollups)) reply.TooManyRollups (λ _. a), (refuse_some P (not (is_name name)) reply.BadName (λ _. b), (refuse_some P (has_index_name name t) reply.DoubleName (λ _. c), (rolled_any P d (roll_fault t.shape columns), tt))))
 
-add_alter_any : (P : Reply → Type 0) → P reply.UnknownDb → P reply.UnknownTable → ((n : ℕ) → P (reply.Busy n)) → P reply.TooManyJobs → P reply.TooManyRollups → P reply.BadName → P reply.DoubleName → ((e : DefError) → P (reply.BadAlter e)) → (db table : List ℕ) (def : AlterDef) (dbs : List (List ℕ)) (tables : List Table) (jobs : List JobInfo) → AllSome P (add_alter_refusals db table def dbs tables jobs)
+add_alter_any : (P : Reply → Type 0) → P reply.UnknownDb → P reply.UnknownTable → ((n : ℕ) → P (reply.Busy n)) → P reply.TooManyJobs → P reply.TooManyRollups → P reply.BadName → P reply.DoubleName → ((e : AlterError) → P (reply.BadAlter e)) → (db table : List ℕ) (def : AlterDef) (dbs : List (List ℕ)) (tables : List Table) (jobs : List JobInfo) → AllSome P (add_alter_refusals db table def dbs tables jobs)
 add_alter_any P x y z u a b c d db table def dbs tables jobs =
     (refuse_some P (not (has_db db dbs)) reply.UnknownDb (λ _. x), (refuse_some P (is_none (table_named db table tables)) reply.UnknownTable (λ _. y), (busy_any P z (table_named db table tables) jobs, (refuse_some P (nat_le most (length jobs)) reply.TooManyJobs (λ _. u), (alter_any P a b c d def (table_named db table tables), tt)))))
 
@@ -139,7 +142,7 @@ refused_stays Es (command.CreateDb name if_not_exists) =
     (refuse_some (Stays Es c) (not (is_name name)) reply.BadName (λ _ h. absurd (cc)), (refuse_some (Stays Es c) (has_db name (databases_of Es)) (cond if_not_exists reply.Done reply.DbExists) (λ is. exists_stays Es c (has_db name (databases_of Es)) if_not_exists reply.DbExists (event.DbMade (record { name = name })) refl is refl), (refuse_some (Stays Es c) (nat_le most (length (databases_of Es))) reply.TooManyDbs (λ _ h. absurd (cc)), tt)))
 refused_stays Es (command.CreateTable db table def if_not_exists) =
     let c = command.CreateTable db table def if_not_exists in
-    (refuse_some (Stays Es c) (not (has_db db (databases_of Es))) reply.UnknownDb (λ _ h. absurd (cc)), (refuse_some (Stays Es c) (is_some (table_named db table (tables_of Es))) (cond if_not_exists reply.Done reply.TableExists) (λ is. exists_stays Es c (is_some (table_named db table (tables_of Es))) if_not_exists reply.TableExists (event.TableMade (record { db = db; name = table; shape = shape_by def; layout = layout_by table def })) refl is refl), (refuse_some (Stays Es c) (not (is_name table)) reply.BadName (λ _ h. absurd (cc)), (refuse_some (Stays Es c) (nat_le most (length (tables_of Es))) reply.TooManyTables (λ _ h. absurd (cc)), (def_stays Es c def, tt)))))
+    (refuse_some (Stays Es c) (not (has_db db (databases_of Es))) reply.UnknownDb (λ _ h. absurd (cc)), (refuse_some (Stays Es c) (is_some (table_named db table (tables_of Es))) (cond if_not_exists reply.Done reply.TableExists) (λ is. exists_stays Es c (is_some (table_named db table (tables_of Es))) if_not_exists reply.TableExists (event.TableMade (record { db = db; name = table; shape = shape_of def; layout = layout_of table def })) refl is refl), (refuse_some (Stays Es c) (not (is_name table)) reply.BadName (λ _ h. absurd (cc)), (refuse_some (Stays Es c) (nat_le most (length (tables_of Es))) reply.TooManyTables (λ _ h. absurd (cc)), (def_stays Es c table def, tt)))))
 refused_stays Es (command.Begin db table label two_phase at) =
     let c = command.Begin db table label two_phase at in
     (refuse_some (Stays Es c) (not (has_db db (databases_of Es))) reply.UnknownDb (λ _ h. absurd (cc)), (refuse_some (Stays Es c) (is_none (table_named db table (tables_of Es))) reply.UnknownTable (λ _ h. absurd (cc)), (label_stays Es c label, (used_stays Es c (label_of db (label_for label (next_of Es)) (txns_of Es)), tt))))
@@ -215,8 +218,8 @@ all_not_begun os all ok r a b =
       | inr m ↦ elim (first_or NotBegun os (ok r) r all m) [ inl q ↦ q | inr n ↦ absurd (cc (n, b)) ]
     ]
 
-def_not_begun : (def : PlainDef) → IfSome (refused_def def) NotBegun
-def_not_begun def = go (def_fault def)
+def_not_begun : (table : List ℕ) (def : TableDef) → IfSome (refused_def table def) NotBegun
+def_not_begun table def = go (def_fault table def)
   where
     go : (o : Option DefError) → IfSome (refused_by o) NotBegun
     go None = tt
@@ -267,9 +270,9 @@ commit_not_begun : (at : ℕ) (known : Bool) (o : Option Txn) → AllSome NotBeg
 commit_not_begun at known None = (refuse_some NotBegun (not known) reply.UnknownDb (λ _. refl), (refl, tt))
 commit_not_begun at known (Some t) = (refuse_some NotBegun (not known) reply.UnknownDb (λ _. refl), (refuse_some NotBegun (not (is_precommitted t.state)) (reply.WrongState t.state) (λ _. refl), (refuse_some NotBegun (nat_le (t.since + 3600) at) (reply.Expired t.since) (λ _. refl), tt)))
 
-part_not_begun : (part : PartDef) (o : Option Table) → IfSome (refused_part part o) NotBegun
+part_not_begun : (part : Part) (o : Option Table) → IfSome (refused_part part o) NotBegun
 part_not_begun part None = tt
-part_not_begun part (Some t) = go (add_fault t.shape t.layout (with_range t.layout.parts part))
+part_not_begun part (Some t) = go (add_fault t.layout (part_of t.layout.kind part))
   where
     go : (o : Option LayoutError) → IfSome (option_map reply.BadPartition o) NotBegun
     go None = tt
@@ -312,7 +315,7 @@ pub begins_by : (Es : List Event) (c : Command) (r : Reply) → Answer Es c r �
 begins_by Es (command.CreateDb name if_not_exists) r a b =
     absurd (let h = all_not_begun (refusals Es (command.CreateDb name if_not_exists)) (refuse_some NotBegun (not (is_name name)) reply.BadName (λ _. refl), (refuse_some NotBegun (has_db name (databases_of Es)) (cond if_not_exists reply.Done reply.DbExists) (λ _. exists_not_begun if_not_exists reply.DbExists refl), (refuse_some NotBegun (nat_le most (length (databases_of Es))) reply.TooManyDbs (λ _. refl), tt))) (λ r. r ≡ reply.Done) r a b in let z : is_begun r ≡ false = ap is_begun h in cc (z, b))
 begins_by Es (command.CreateTable db table def if_not_exists) r a b =
-    absurd (let h = all_not_begun (refusals Es (command.CreateTable db table def if_not_exists)) (refuse_some NotBegun (not (has_db db (databases_of Es))) reply.UnknownDb (λ _. refl), (refuse_some NotBegun (is_some (table_named db table (tables_of Es))) (cond if_not_exists reply.Done reply.TableExists) (λ _. exists_not_begun if_not_exists reply.TableExists refl), (refuse_some NotBegun (not (is_name table)) reply.BadName (λ _. refl), (refuse_some NotBegun (nat_le most (length (tables_of Es))) reply.TooManyTables (λ _. refl), (def_not_begun def, tt))))) (λ r. r ≡ reply.Done) r a b in let z : is_begun r ≡ false = ap is_begun h in cc (z, b))
+    absurd (let h = all_not_begun (refusals Es (command.CreateTable db table def if_not_exists)) (refuse_some NotBegun (not (has_db db (databases_of Es))) reply.UnknownDb (λ _. refl), (refuse_some NotBegun (is_some (table_named db table (tables_of Es))) (cond if_not_exists reply.Done reply.TableExists) (λ _. exists_not_begun if_not_exists reply.TableExists refl), (refuse_some NotBegun (not (is_name table)) reply.BadName (λ _. refl), (refuse_some NotBegun (nat_le most (length (tables_of Es))) reply.TooManyTables (λ _. refl), (def_not_begun table def, tt))))) (λ r. r ≡ reply.Done) r a b in let z : is_begun r ≡ false = ap is_begun h in cc (z, b))
 begins_by Es (command.Begin db table label two_phase at) r a b =
     begun_for (next_of Es) (table_named db table (tables_of Es)) (jobs_of Es) r (all_not_begun (refusals Es (command.Begin db table label two_phase at)) (refuse_some NotBegun (not (has_db db (databases_of Es))) reply.UnknownDb (λ _. refl), (refuse_some NotBegun (is_none (table_named db table (tables_of Es))) reply.UnknownTable (λ _. refl), (label_not_begun label, (used_not_begun (label_of db (label_for label (next_of Es)) (txns_of Es)), tt)))) (BegunFor (next_of Es) (table_named db table (tables_of Es)) (jobs_of Es)) r a b)
 begins_by Es (command.Submit txn built at) r a b =

@@ -6,7 +6,8 @@ use Rattle.std.specs.Option.{option_map}
 use Rattle.dl_values.specs.declared.cell.Cell.{Cell}
 use Rattle.schema_models.specs.Folds.{fold_of}
 use Rattle.row_map.specs.Maps.{AdmittedRollupsJoin, rollup_map}
-use Rattle.partitions.specs.LayoutRules.{IsLayout, with_part}
+use Rattle.partitions.specs.LayoutFaults.{with_part}
+use Rattle.partitions.specs.LayoutRules.{IsLayout}
 use Rattle.partitions.specs.Places.{Place}
 use Rattle.alter_core.specs.declared.job.Cause.TheVariants as cause
 use Rattle.alter_core.specs.declared.job.Change.{Change}

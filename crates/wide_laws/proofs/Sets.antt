@@ -8,7 +8,8 @@ use Rattle.std.specs.List.{list_any, range_with_len}
 use Rattle.dl_values.specs.declared.cell.Cell.{Cell}
 use Rattle.schema_models.specs.ShapeView.{ShapeView}
 use Rattle.partitions.specs.LayoutView.{LayoutView}
-use Rattle.partitions.specs.LayoutRules.{IsLayout, with_part}
+use Rattle.partitions.specs.LayoutFaults.{with_part}
+use Rattle.partitions.specs.LayoutRules.{IsLayout}
 use Rattle.partitions.specs.declared.part_def.PartDef.{PartDef}
 use Rattle.partitions.specs.Places.{AreInside, Place, buckets_at, is_in, lies_in, place_for, rows_at, tablets_of}
 use Rattle.partitions.proofs.Places.{place_stays, place_within}
@@ -111,13 +112,13 @@ within s l v part (r ∷ rs) h = rw (go (place_for l r) refl) (within s l v part
     go (Some p) e = let k = place_within s l v r p e in let a = k.0 in grind (arith, nat_tests)
 
 pub set_found : (s : ShapeView) (l : LayoutView) (target : Index) → IsLayout s l → (rows : List (List Cell)) (w : Place)
-    → set_for w (sets_of s l target rows) ≡ cond (list_any (lies_in l w.part) rows && nat_lt w.bucket l.buckets) (Some (set_at s l target rows w)) None
+    → set_for w (sets_of l target rows) ≡ cond (list_any (lies_in l w.part) rows && nat_lt w.bucket l.buckets) (Some (set_at l target rows w)) None
 set_found s l target v rows w =
     found (λ x. indexed target (rows_at l x rows)) (λ x. list_any (lies_in l x.part) rows) w (tablets_of l)
-    ∙ ap (λ (b : Bool). cond (list_any (lies_in l w.part) rows && b) (Some (set_at s l target rows w)) None) (among_tablets w l.buckets 0 (length l.parts) (omega arith) ∙ ap (λ (n : ℕ). nat_lt w.part n && nat_lt w.bucket l.buckets) (let m : 0 + length l.parts ≡ length l.parts = omega arith in m))
+    ∙ ap (λ (b : Bool). cond (list_any (lies_in l w.part) rows && b) (Some (set_at l target rows w)) None) (among_tablets w l.buckets 0 (length l.parts) (omega arith) ∙ ap (λ (n : ℕ). nat_lt w.part n && nat_lt w.bucket l.buckets) (let m : 0 + length l.parts ≡ length l.parts = omega arith in m))
     ∙ go (nat_lt w.part (length l.parts)) refl
   where
-    go : (b : Bool) → nat_lt w.part (length l.parts) ≡ b → cond (list_any (lies_in l w.part) rows && (b && nat_lt w.bucket l.buckets)) (Some (set_at s l target rows w)) None ≡ cond (list_any (lies_in l w.part) rows && nat_lt w.bucket l.buckets) (Some (set_at s l target rows w)) None
+    go : (b : Bool) → nat_lt w.part (length l.parts) ≡ b → cond (list_any (lies_in l w.part) rows && (b && nat_lt w.bucket l.buckets)) (Some (set_at l target rows w)) None ≡ cond (list_any (lies_in l w.part) rows && nat_lt w.bucket l.buckets) (Some (set_at l target rows w)) None
     go true e = refl
     go false e = rw (within s l v w.part rows e) refl
 
@@ -133,10 +134,10 @@ tablets_more l p =
     ∙ flat_map-append (buckets_at l.buckets) (range_with_len 0 (length l.parts)) (length l.parts ∷ [])
     ∙ ap (λ (x : List Place). tablets_of l ++ x) (append-nil (buckets_at l.buckets (length l.parts)))
 
-pub lies_stay : (s : ShapeView) (l : LayoutView) (p : PartDef) (part : ℕ) (rows : List (List Cell)) → AreInside l rows → list_any (lies_in (with_part p l) part) rows ≡ list_any (lies_in l part) rows
-lies_stay s l p part [] a = refl
-lies_stay s l p part (r ∷ rs) a =
-    ap (λ (o : Option Place). is_in part o || list_any (lies_in (with_part p l) part) rs) (place_stays s l p r a.0) ∙ ap (λ (b : Bool). lies_in l part r || b) (lies_stay s l p part rs a.1)
+pub lies_stay : (l : LayoutView) (p : PartDef) (part : ℕ) (rows : List (List Cell)) → AreInside l rows → list_any (lies_in (with_part p l) part) rows ≡ list_any (lies_in l part) rows
+lies_stay l p part [] a = refl
+lies_stay l p part (r ∷ rs) a =
+    ap (λ (o : Option Place). is_in part o || list_any (lies_in (with_part p l) part) rs) (place_stays l p r a.0) ∙ ap (λ (b : Bool). lies_in l part r || b) (lies_stay l p part rs a.1)
 
 map_same : (f g : Place → PlacedRows) → ((w : Place) → f w ≡ g w) → (ws : List Place) → map f ws ≡ map g ws
 map_same f g e [] = refl
@@ -150,12 +151,12 @@ none_of : (q : Place → Bool) (part a n : ℕ) → ((b : ℕ) → q (record { p
 none_of q part a zero h = refl
 none_of q part a (suc n) h = rw (h a) (none_of q part (a + 1) n h)
 
-pub sets_stay : (s : ShapeView) (l : LayoutView) (p : PartDef) (target : Index) → IsLayout s l → (rows : List (List Cell)) → AreInside l rows → sets_of s (with_part p l) target rows ≡ sets_of s l target rows
+pub sets_stay : (s : ShapeView) (l : LayoutView) (p : PartDef) (target : Index) → IsLayout s l → (rows : List (List Cell)) → AreInside l rows → sets_of (with_part p l) target rows ≡ sets_of l target rows
 sets_stay s l p target v rows a =
     let q : Place → Bool = λ w. list_any (lies_in l w.part) rows in
     let new : nat_lt (length l.parts) (length l.parts) ≡ false = grind (arith, nat_tests) in
-    map_same (λ w. record { place = w; rows = indexed target (rows_at (with_part p l) w rows) }) (λ w. record { place = w; rows = indexed target (rows_at l w rows) }) (λ w. ap (λ (x : List (List Cell)). record { place = w; rows = indexed target x }) (rows_stay s l p w rows a)) (filter (λ w. list_any (lies_in (with_part p l) w.part) rows) (tablets_of (with_part p l)))
+    map_same (λ w. record { place = w; rows = indexed target (rows_at (with_part p l) w rows) }) (λ w. record { place = w; rows = indexed target (rows_at l w rows) }) (λ w. ap (λ (x : List (List Cell)). record { place = w; rows = indexed target x }) (rows_stay l p w rows a)) (filter (λ w. list_any (lies_in (with_part p l) w.part) rows) (tablets_of (with_part p l)))
     ∙ ap (map (λ w. record { place = w; rows = indexed target (rows_at l w rows) }))
-    (filter_same (λ w. list_any (lies_in (with_part p l) w.part) rows) q (λ w. lies_stay s l p w.part rows a) (tablets_of (with_part p l))
+    (filter_same (λ w. list_any (lies_in (with_part p l) w.part) rows) q (λ w. lies_stay l p w.part rows a) (tablets_of (with_part p l))
     ∙ ap (filter q) (tablets_more l p) ∙ filter-append q (tablets_of l) (buckets_at l.buckets (length l.parts))
     ∙ ap (λ (x : List Place). filter q (tablets_of l) ++ x) (none_of q (length l.parts) 0 l.buckets (λ b. within s l v (length l.parts) rows new)) ∙ append-nil (filter q (tablets_of l)))

@@ -18,10 +18,10 @@ use Rattle.schema_models.specs.RowRules.{IsOfShape}
 use Rattle.schema_models.specs.ShapeRules.{IsShape, shape_fault}
 use Rattle.schema_models.specs.declared.column_def.ColumnDef.{ColumnDef}
 use Rattle.row_map.specs.declared.map.RowMap.{RowMap}
-use Rattle.row_map.specs.declared.map.AdmitError.TheVariants as admit_error
+use Rattle.row_map.specs.declared.admit_error.AdmitError.TheVariants as admit_errors
 use Rattle.row_map.specs.Maps.{Admits, AdmittedRollupsJoin, Converts, Joins, conv, converts_row, lacking_key, mapped_row, rollup_map, rollup_shape, unknown_column}
 use Rattle.row_map.proofs.Rollups.{rollup_converts}
-use Rattle.table_defs.specs.declared.def_error.DefError.TheVariants as def_error
+use Rattle.wide_defs.specs.declared.alter_error.AlterError.TheVariants as alter_error
 use Rattle.alter_core.specs.declared.job.Cause.{Cause}
 use Rattle.alter_core.specs.declared.job.Cause.TheVariants as cause
 use Rattle.alter_core.specs.declared.job.Change.{Change}
@@ -36,7 +36,8 @@ use Rattle.wide_defs.specs.Indexes.{Index, base_index, conv_by, first_new, index
 use Rattle.wide_defs.specs.Alters.{change_refusal, has_index_name, most_rollups, roll_fault}
 use Rattle.schema_models.proofs.RowMerges.{shape_folding}
 use Rattle.partitions.specs.LayoutView.{LayoutView}
-use Rattle.partitions.specs.LayoutRules.{IsLayout, with_part}
+use Rattle.partitions.specs.LayoutFaults.{with_part}
+use Rattle.partitions.specs.LayoutRules.{IsLayout}
 use Rattle.partitions.specs.declared.part_def.PartDef.{PartDef}
 use Rattle.partitions.specs.Places.{AreInside, Place, is_at, is_in, lies_at, lies_in, place_for, rows_at, spread, tablets_of}
 use Rattle.partitions.proofs.Places.{inside_fold, parts_alike, place_stays, place_within, placing, spreading}
@@ -384,22 +385,22 @@ held_later last y tables u n k h =
     subst (λ (o : Option Table). IsHeldBy o u) (sym (made_apart u.table y tables e)) h
 
 -- a partition is added
-pub inside_more : (s : ShapeView) (l : LayoutView) (p : PartDef) (rows : List (List Cell)) → AreInside l rows → AreInside (with_part p l) rows
-inside_more s l p [] a = tt
-inside_more s l p (r ∷ rs) a = (ap is_some (place_stays s l p r a.0) ∙ a.0, inside_more s l p rs a.1)
+pub inside_more : (l : LayoutView) (p : PartDef) (rows : List (List Cell)) → AreInside l rows → AreInside (with_part p l) rows
+inside_more l p [] a = tt
+inside_more l p (r ∷ rs) a = (ap is_some (place_stays l p r a.0) ∙ a.0, inside_more l p rs a.1)
 
-pub rows_stay : (s : ShapeView) (l : LayoutView) (p : PartDef) (w : Place) (rows : List (List Cell)) → AreInside l rows → rows_at (with_part p l) w rows ≡ rows_at l w rows
-rows_stay s l p w [] a = refl
-rows_stay s l p w (r ∷ rs) a =
-    ap (λ (o : Option Place). cond (is_at w o) (r ∷ rows_at (with_part p l) w rs) (rows_at (with_part p l) w rs)) (place_stays s l p r a.0)
-    ∙ ap (λ (x : List (List Cell)). cond (lies_at l w r) (r ∷ x) x) (rows_stay s l p w rs a.1)
+pub rows_stay : (l : LayoutView) (p : PartDef) (w : Place) (rows : List (List Cell)) → AreInside l rows → rows_at (with_part p l) w rows ≡ rows_at l w rows
+rows_stay l p w [] a = refl
+rows_stay l p w (r ∷ rs) a =
+    ap (λ (o : Option Place). cond (is_at w o) (r ∷ rows_at (with_part p l) w rs) (rows_at (with_part p l) w rs)) (place_stays l p r a.0)
+    ∙ ap (λ (x : List (List Cell)). cond (lies_at l w r) (r ∷ x) x) (rows_stay l p w rs a.1)
 
 part_holds : (p : PartDef) (t : Table) (base : List (List Cell)) (lists : ℕ → Place → List StoredList) → Holds t base lists → Holds (record t { layout = with_part p t.layout }) base lists
-part_holds p t base lists h = record { base_is = h.base_is; inside = inside_more t.shape t.layout p base h.inside; converts = h.converts; tablets = λ index w. of (index_at index t) w (lists index w) (h.tablets index w) }
+part_holds p t base lists h = record { base_is = h.base_is; inside = inside_more t.layout p base h.inside; converts = h.converts; tablets = λ index w. of (index_at index t) w (lists index w) (h.tablets index w) }
   where
     of : (o : Option Index) (w : Place) (l : List StoredList) → TabletFolds o t w base l → TabletFolds o (record t { layout = with_part p t.layout }) w base l
     of None w l k = k
-    of (Some x) w l k = k ∙ ap (indexed x) (sym (rows_stay t.shape t.layout p w base h.inside))
+    of (Some x) w l k = k ∙ ap (indexed x) (sym (rows_stay t.layout p w base h.inside))
 
 pub part_table : (a : PartAdded) (o : Option Table) (base : List (List Cell)) (lists : ℕ → Place → List StoredList) → TableHolds o base lists → TableHolds (option_map (part_added a) o) base lists
 part_table a None base lists h = h
@@ -410,7 +411,7 @@ part_held a tables u h = subst (λ (o : Option Table). IsHeldBy o u) (sym (found
   where
     go : (o : Option Table) → IsHeldBy o u → IsHeldBy (option_map (part_added a) o) u
     go None k = k
-    go (Some b) k = elim (nat_eq b.number a.table) as (λ (c : Bool). AreRowsOf (cond c (record b { layout = with_part a.part b.layout }) b).shape (cond c (record b { layout = with_part a.part b.layout }) b).layout u.rows) [ true ↦ record { shaped = k.shaped; inside = inside_more b.shape b.layout a.part u.rows k.inside } | false ↦ k ]
+    go (Some b) k = elim (nat_eq b.number a.table) as (λ (c : Bool). AreRowsOf (cond c (record b { layout = with_part a.part b.layout }) b).shape (cond c (record b { layout = with_part a.part b.layout }) b).layout u.rows) [ true ↦ record { shaped = k.shaped; inside = inside_more b.layout a.part u.rows k.inside } | false ↦ k ]
 
 -- a table is dropped
 dropped_held : (table at : ℕ) (tables : List Table) (u : Txn) → IsHeld tables u → IsHeld (filter (λ b. not (nat_eq b.number table)) tables) (dropped table at u)
@@ -593,10 +594,10 @@ admitted_change (change.Rollup name columns) t v h =
     let c = none_first (refuse_if (has_index_name name t) reply.DoubleName) _ b.1 in
     let d = none_first (option_map reply.BadAlter (roll_fault t.shape columns)) [] c.1 in
     let e = mapped_none reply.BadAlter (roll_fault t.shape columns) d.0 in
-    let f = none_first (option_map def_error.NoColumn (unknown_column t.shape columns)) _ e in
-    let g = none_first (option_map def_error.Shape (shape_fault t.shape.model (rollup_shape t.shape columns).columns)) _ f.1 in
-    let i = none_first (option_map (λ (x : ColumnDef). def_error.Map (admit_error.NeedsKey x.name)) (lacking_key t.shape columns)) [] g.1 in
-    record { base = v; known = mapped_none def_error.NoColumn (unknown_column t.shape columns) f.0; shape = mapped_none def_error.Shape (shape_fault t.shape.model (rollup_shape t.shape columns).columns) g.0; keyed = mapped_none (λ (x : ColumnDef). def_error.Map (admit_error.NeedsKey x.name)) (lacking_key t.shape columns) i.0 }
+    let f = none_first (option_map alter_error.NoColumn (unknown_column t.shape columns)) _ e in
+    let g = none_first (option_map alter_error.Shape (shape_fault t.shape.model (rollup_shape t.shape columns).columns)) _ f.1 in
+    let i = none_first (option_map (λ (x : ColumnDef). alter_error.Map (admit_errors.NeedsKey x.name)) (lacking_key t.shape columns)) [] g.1 in
+    record { base = v; known = mapped_none alter_error.NoColumn (unknown_column t.shape columns) f.0; shape = mapped_none alter_error.Shape (shape_fault t.shape.model (rollup_shape t.shape columns).columns) g.0; keyed = mapped_none (λ (x : ColumnDef). alter_error.Map (admit_errors.NeedsKey x.name)) (lacking_key t.shape columns) i.0 }
 
 -- ---- a job ends well
 

@@ -81,7 +81,7 @@ pub record Told (Es : List Event) : Type 0 where
   pub story : IsStory (journal Es)
 
 pub always_told : AdmittedRollupsJoin → (H : List Entry) → Legal H → Told (happened H)
-always_told law H l = always_holds Told (record { spread = spread_first law; story = tt }) (λ e Es g h p. record { spread = spread_step e Es g h p.spread; story = story_on e Es (is_told e) refl g p.spread p.story }) H l
+always_told law H l = always_holds Told (record { spread = spread_first law; story = tt }) (λ e Es g h p. record { spread = spread_step e Es g h p.spread; story = story_on e Es (is_told e) refl g p.spread h p.story }) H l
 
 -- The story of a journal exists, and agrees with the history and an opening.
 pub reopens : AdmittedRollupsJoin → (H : List Entry) → Legal H → IsStory (journal_of H) × Agrees (event.Opened ∷ happened H) (happened (story (journal_of H)))

@@ -20,7 +20,8 @@ use Rattle.wide_defs.specs.Catalogue.{finished_in, with_change, table_at, db_in,
 use Rattle.wide_defs.specs.Transactions.{is_committed, txn_at, txns_of, changed, put_txn, begun_txn, submitted_txn, aborted_at, visible_at, committed_at, dropped, dropped_at, dropped_state, is_expired, is_over, sweep, swept_at, places_of, place_of, has_lower, due}
 use Rattle.wide_defs.specs.declared.event.PartAdded.{PartAdded}
 use Rattle.std.specs.Option.{option_map}
-use Rattle.partitions.specs.LayoutRules.{IsLayout, with_part}
+use Rattle.partitions.specs.LayoutFaults.{with_part}
+use Rattle.partitions.specs.LayoutRules.{IsLayout}
 use Rattle.wide_defs.specs.Stored.{AreRowsOf}
 use Rattle.wide_defs.specs.Journal.{There, is_load_label}
 use Rattle.wide_laws.specs.Tidy.{Each, Pairs, Ascends, Tells, label_key, OlderIsAborted, IsHome, HomeBy, HasHome, Tidy, LabelFits, Happens, last_begun}
@@ -163,8 +164,8 @@ home_in two_phase None schema Q h = absurd h
 home_in true (Some b) schema Q h = (refl, h.0)
 home_in false (Some b) schema Q h = (refl, h.0)
 
-put_parts : (ts : List Txn) (ids : List ℕ) (next last : ℕ) (tables : List Table) (s : LoadSubmitted) → Parts ts ids next tables → s.txn < next → There (table_at s.table tables) (λ b. (b.schema ≡ s.schema) × AreRowsOf b.shape b.layout s.rows) → is_load_label s.txn s.label ≡ true → Each (LabelFits s.txn (db_of s.table tables, s.label)) ts → Parts (put_txn (submitted_txn s (db_of s.table tables) last) ts) (s.txn ∷ ids) next tables
-put_parts ts ids next last tables s p lt home label fits =
+put_parts : (ts : List Txn) (ids : List ℕ) (next last : ℕ) (tables : List Table) (s : LoadSubmitted) → Parts ts ids next tables → 1 ≤ s.txn → s.txn < next → There (table_at s.table tables) (λ b. (b.schema ≡ s.schema) × AreRowsOf b.shape b.layout s.rows) → is_load_label s.txn s.label ≡ true → Each (LabelFits s.txn (db_of s.table tables, s.label)) ts → Parts (put_txn (submitted_txn s (db_of s.table tables) last) ts) (s.txn ∷ ids) next tables
+put_parts ts ids next last tables s p from lt home label fits =
     let y = submitted_txn s (db_of s.table tables) last in
     record {
       tells = each_put (λ u. Tells u.state u.told) y ts (each_imp (λ u. Tells u.state u.told) (λ u. (u.id ≡ s.txn → ⊥) → Tells u.state u.told) (λ u h _. h) ts p.tells) (told_tells s.two_phase);
@@ -183,7 +184,7 @@ none_told id [] e = refl
 none_told id (i ∷ is) e = let n : nat_eq id i ≡ false = let h = e.0 in grind (arith, nat_tests) in rw n (none_told id is e.1)
 
 tidy_of : (e : Event) (Es : List Event) → next_of (e ∷ Es) ≡ next_of Es → range_of (e ∷ Es) ≡ range_of Es → told_ids (e ∷ Es) ≡ told_ids Es → last_begun (e ∷ Es) ≡ last_begun Es → tables_of (e ∷ Es) ≡ tables_of Es → last_table_of (e ∷ Es) ≡ last_table_of Es → Tidy Es → Parts (txns_of (e ∷ Es)) (told_ids Es) (next_of Es) (tables_of (e ∷ Es)) → Each (λ t. t.table ≤ last_table_of Es) (txns_of (e ∷ Es)) → Tidy (e ∷ Es)
-tidy_of e Es n r i l b m t p u = record { spent = rw (n, l) t.spent; numbers = rw b t.numbers; laid = rw b t.laid; used = rw m u; numbered = rw (b, m) t.numbered; tells = p.tells; ascends = p.ascends; labels = p.labels; below = rw n p.below; known = rw i p.known; homes = p.homes; labelled = p.labelled; ids = rw (n, i) t.ids; within = let w = t.within in omega (arith, n, r, w) }
+tidy_of e Es n r i l b m t p u = record { spent = rw (n, l) t.spent; numbers = rw b t.numbers; laid = rw b t.laid; used = rw m u; numbered = rw (b, m) t.numbered; tells = p.tells; ascends = p.ascends; labels = p.labels; below = rw n p.below; known = rw i p.known; homes = p.homes; labelled = p.labelled; from = p.from; ids = rw (n, i) t.ids; within = let w = t.within in omega (arith, n, r, w) }
 
 -- a change that keeps the table
 used_map : (last : ℕ) (f : Txn → Txn) → ((t : Txn) → (f t).table ≡ t.table) → (ts : List Txn) → Each (λ t. t.table ≤ last) ts → Each (λ t. t.table ≤ last) (map f ts)
@@ -470,8 +471,8 @@ tidy_on Es (event.TxnBegun b) t h =
       numbered = t.numbered;
     }
 tidy_on Es (event.LoadSubmitted s) t h =
-    let p = put_parts (txns_of Es) (told_ids Es) (next_of Es) (places_of Es) (tables_of Es) s (parts_of Es t) h.below h.home h.label h.fits in
-    record { tells = p.tells; ascends = p.ascends; labels = p.labels; below = p.below; known = p.known; homes = p.homes; labelled = p.labelled; ids = (h.below, t.ids); within = t.within; spent = t.spent; numbers = t.numbers; laid = t.laid; used = each_put (λ u. u.table ≤ last_table_of Es) (submitted_txn s (db_of s.table (tables_of Es)) (places_of Es)) (txns_of Es) (each_imp (λ u. u.table ≤ last_table_of Es) (λ u. (u.id ≡ s.txn → ⊥) → u.table ≤ last_table_of Es) (λ u k _. k) (txns_of Es) t.used) (there_used s.table (last_table_of Es) (tables_of Es) (λ b. (b.schema ≡ s.schema) × AreRowsOf b.shape b.layout s.rows) t.numbered h.home); numbered = t.numbered }
+    let p = put_parts (txns_of Es) (told_ids Es) (next_of Es) (places_of Es) (tables_of Es) s (parts_of Es t) h.first h.below h.home h.label h.fits in
+    record { tells = p.tells; ascends = p.ascends; labels = p.labels; below = p.below; known = p.known; homes = p.homes; labelled = p.labelled; from = p.from; ids = (h.below, t.ids); within = t.within; spent = t.spent; numbers = t.numbers; laid = t.laid; used = each_put (λ u. u.table ≤ last_table_of Es) (submitted_txn s (db_of s.table (tables_of Es)) (places_of Es)) (txns_of Es) (each_imp (λ u. u.table ≤ last_table_of Es) (λ u. (u.id ≡ s.txn → ⊥) → u.table ≤ last_table_of Es) (λ u k _. k) (txns_of Es) t.used) (there_used s.table (last_table_of Es) (tables_of Es) (λ b. (b.schema ≡ s.schema) × AreRowsOf b.shape b.layout s.rows) t.numbered h.home); numbered = t.numbered }
 tidy_on Es (event.TxnAborted a) t h = tidy_of (event.TxnAborted a) Es refl refl refl refl refl refl t (abort_parts (txns_of Es) (told_ids Es) (next_of Es) (tables_of Es) a.txn a.at (parts_of Es t)) (used_changed (last_table_of Es) a.txn (aborted_at a.at) (λ t. refl) (txns_of Es) t.used)
 tidy_on Es (event.LoadPublished p) t h =
     let found = subst (λ (n : ℕ). txn_at n (txns_of Es) ≡ Some h.0) h.2 (due_found Es h.0 t h.1) in
@@ -490,6 +491,7 @@ tidy_on Es (event.PartAdded a) t h =
       below = t.below;
       known = t.known;
       labelled = t.labelled;
+      from = t.from;
       ids = t.ids;
       within = t.within;
       spent = t.spent;
@@ -514,6 +516,7 @@ tidy_on Es (event.TableDropped d) t h =
       below = p.below;
       known = p.known;
       labelled = p.labelled;
+      from = p.from;
       ids = t.ids;
       within = t.within;
       spent = t.spent;
@@ -557,6 +560,7 @@ tidy_on Es (event.JobWaiting x) t h =
       known = t.known;
       homes = t.homes;
       labelled = t.labelled;
+      from = t.from;
       numbers = t.numbers;
       laid = t.laid;
       used = t.used;
@@ -577,6 +581,7 @@ tidy_on Es (event.WatershedDrawn x) t h = record {
   known = t.known;
   homes = t.homes;
   labelled = t.labelled;
+  from = t.from;
   numbers = t.numbers;
   laid = t.laid;
   used = t.used;
@@ -596,6 +601,7 @@ tidy_on Es (event.JobFinished x) t h =
       below = t.below;
       known = t.known;
       labelled = t.labelled;
+      from = t.from;
       ids = t.ids;
       within = t.within;
       spent = t.spent;

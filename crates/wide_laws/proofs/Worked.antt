@@ -5,6 +5,7 @@ use Rattle.dl_values.specs.declared.cell.Cell.{Cell}
 use Rattle.schema_models.specs.ShapeView.{ShapeView}
 use Rattle.schema_models.specs.Folds.{fold_of}
 use Rattle.schema_models.specs.ShapeRules.{shape_fault}
+use Rattle.partitions.specs.LayoutFaults.{layout_fault}
 use Rattle.load_targets.specs.declared.built.Built.{Built}
 use Rattle.wide_defs.specs.declared.command.Command.{Command}
 use Rattle.wide_defs.specs.declared.command.Command.TheVariants as command
@@ -13,7 +14,7 @@ use Rattle.wide_defs.specs.declared.reply.Reply.TheVariants as reply
 use Rattle.wide_defs.specs.declared.history.Call.{Call}
 use Rattle.wide_defs.specs.declared.history.Entry.{Entry}
 use Rattle.wide_defs.specs.declared.catalogue.Table.{Table}
-use Rattle.wide_defs.specs.Defines.{shape_by}
+use Rattle.table_defs.specs.Columns.{shape_of}
 use Rattle.wide_defs.specs.Answer.{Answer, Shows}
 use Rattle.wide_defs.specs.History.{happened, broken_of, last_faults}
 use Rattle.wide_defs.specs.May.{May, IsBuilt}
@@ -38,7 +39,7 @@ plain_legal c r H answer may other whole count = record {
 }
 
 pub made_legal : Legal made
-unfolding shape_fault
+unfolding shape_fault layout_fault
 made_legal = (plain_legal (command.CreateTable d t def false) reply.Done _ (inr refl) tt (λ e. cc) refl refl, (plain_legal (command.CreateDb d false) reply.Done [] (inr refl) tt (λ e. cc) refl tt, tt))
 
 begun_legal : Legal begun
@@ -70,11 +71,11 @@ faulted_legal built is = (
 )
 
 -- what a snapshot of the table shows
-shows_rows : (b : Table) (base shown : List (List Cell)) (cost : ℕ) (r : Reply) → Shows b base cost r → b.shape ≡ shape_by def → base ≡ shown → ShowsRows shown r
+shows_rows : (b : Table) (base shown : List (List Cell)) (cost : ℕ) (r : Reply) → Shows b base cost r → b.shape ≡ shape_of def → base ≡ shown → ShowsRows shown r
 shows_rows b base shown cost (reply.Snap s) h shape is = ap (λ (x : ShapeView). fold_of x (joined (map (λ l. rowset_rows l.value) s.lists))) (sym shape) ∙ h.2.rows ∙ is
 shows_rows b base shown cost _ h shape is = absurd h
 
-pub reads : (b : Table) (base shown : List (List Cell)) (cost : ℕ) → b.shape ≡ shape_by def → base ≡ shown → (r : Reply) → (r ≡ reply.NoMemory) ⊎ Shows b base cost r → (r ≡ reply.NoMemory) ⊎ ShowsRows shown r
+pub reads : (b : Table) (base shown : List (List Cell)) (cost : ℕ) → b.shape ≡ shape_of def → base ≡ shown → (r : Reply) → (r ≡ reply.NoMemory) ⊎ Shows b base cost r → (r ≡ reply.NoMemory) ⊎ ShowsRows shown r
 reads b base shown cost shape is r (inl e) = inl e
 reads b base shown cost shape is r (inr h) = inr (shows_rows b base shown cost r h shape is)
 

@@ -3,14 +3,16 @@ use Rattle.std.specs.Prelude.{◌≡◌, ℕ, Bool, true, false, List, [], ◌�
 use Rattle.dl_values.specs.declared.cell.Cell.{Cell}
 use Rattle.rowsets.specs.RowsetView.{rowset_rows}
 use Rattle.dl_values.specs.declared.cell.Cell.TheVariants as cell
-use Rattle.dl_values.specs.declared.col_type.ColType.TheVariants as kind
 use Rattle.schema_models.specs.declared.model.Model.TheVariants as model
 use Rattle.schema_models.specs.Folds.{fold_of}
-use Rattle.sql_text.specs.declared.plain_def.PlainDef.{PlainDef}
-use Rattle.sql_text.specs.declared.plain_def.PlainColumn.{PlainColumn}
+use Rattle.sql_text.specs.declared.part.Part.{Part}
+use Rattle.sql_text.specs.declared.part.PartBounds.TheVariants.{Less}
+use Rattle.sql_text.specs.declared.table_def.ColumnText.{ColumnText}
+use Rattle.sql_text.specs.declared.table_def.ColumnType.TheVariants as kind
+use Rattle.sql_text.specs.declared.table_def.TableDef.{TableDef}
 use Rattle.sql_text.specs.declared.query.Query.{Query}
-use Rattle.partitions.specs.declared.part_def.PartDef.{PartDef}
-use Rattle.partitions.specs.declared.part_def.Bounds.TheVariants.{Less}
+use Rattle.table_defs.specs.Columns.{shape_of}
+use Rattle.table_defs.specs.Defined.{layout_of}
 use Rattle.load_targets.specs.declared.plan.Plan.{Plan}
 use Rattle.load_targets.specs.declared.built.Built.{Built}
 use Rattle.wide_defs.specs.declared.catalogue.Table.{Table}
@@ -22,7 +24,6 @@ use Rattle.wide_defs.specs.declared.reply.Reply.TheVariants as reply
 use Rattle.wide_defs.specs.declared.history.Call.{Call}
 use Rattle.wide_defs.specs.declared.history.Entry.{Entry}
 use Rattle.wide_defs.specs.declared.history.Entry.TheVariants.{Made}
-use Rattle.wide_defs.specs.Defines.{shape_by, layout_by}
 use Rattle.row_map.specs.declared.map.RowMap.{RowMap}
 use Rattle.row_map.specs.Maps.{rollup_map}
 use Rattle.alter_core.specs.declared.job.JobState.TheVariants as job_state
@@ -50,19 +51,19 @@ abbrev pub v : List ℕ
 v = 118 ∷ []
 
 -- `(k INT, v INT) DUPLICATE KEY(k) DISTRIBUTED BY HASH(k) BUCKETS 1`
-abbrev pub int_column : List ℕ → PlainColumn
-int_column name = record { name = name; kind = kind.Int; nullable = true }
+abbrev pub int_column : List ℕ → ColumnText
+int_column name = record { name = name; kind = kind.Int; agg = None; nullable = true; default = None }
 
-abbrev pub def : PlainDef
-def = record { columns = int_column k ∷ int_column v ∷ []; key = Some (record { model = model.Duplicate; names = k ∷ [] }); hash = k ∷ []; buckets = Some 1 }
+abbrev pub def : TableDef
+def = record { columns = int_column k ∷ int_column v ∷ []; key = Some (record { model = model.Duplicate; names = k ∷ [] }); ranges = None; hash = k ∷ []; buckets = Some 1; properties = [] }
 
 -- the plan of a load of the table
 abbrev pub plan : ℕ → Plan
-plan id = record { txn = id; schema = 0; layout = layout_by t def; base = shape_by def; targets = [] }
+plan id = record { txn = id; schema = 0; layout = layout_of t def; base = shape_of def; targets = [] }
 
 -- the table as the catalogue has it
 abbrev pub table : Table
-table = record { number = 1; db = d; name = t; schema = 0; shape = shape_by def; layout = layout_by t def; steps = record { number = 0; shape = shape_by def } ∷ []; rollups = [] }
+table = record { number = 1; db = d; name = t; schema = 0; shape = shape_of def; layout = layout_of t def; steps = record { number = 0; shape = shape_of def } ∷ []; rollups = [] }
 
 -- a call of the one seat, over a keeper that meets no fault
 abbrev pub plain : Command → Reply → Call
@@ -161,7 +162,7 @@ select = command.Snapshot d t all_of_t
 
 -- a snapshot whose lists fold to these rows
 abbrev pub ShowsRows : List (List Cell) → Reply → Type 0
-ShowsRows shown (reply.Snap s) = fold_of (shape_by def) (joined (map (λ l. rowset_rows l.value) s.lists)) ≡ shown
+ShowsRows shown (reply.Snap s) = fold_of (shape_of def) (joined (map (λ l. rowset_rows l.value) s.lists)) ≡ shown
 ShowsRows shown _ = ⊥
 
 -- a snapshot has these rows, but for want of memory
@@ -169,10 +170,10 @@ abbrev pub Reads : List Entry → List (List Cell) → Type 0
 Reads H shown = (r : Reply) → Answer (happened H) select r → (r ≡ reply.NoMemory) ⊎ ShowsRows shown r
 
 -- the definition with another hash column, and with a column twice
-abbrev pub hashed_by_x : PlainDef
+abbrev pub hashed_by_x : TableDef
 hashed_by_x = record def { hash = (120 ∷ []) ∷ [] }
 
-abbrev pub twice_k : PlainDef
+abbrev pub twice_k : TableDef
 twice_k = record def { columns = int_column k ∷ int_column k ∷ [] }
 
 -- a script that publishes one load and responds with the reply
@@ -204,7 +205,7 @@ abbrev pub committed : Built → List Entry
 committed built = call (commit_b 10) (reply.Committed 1 1 0) ∷ precommitted built
 
 -- `PARTITION p VALUES LESS THAN (MAXVALUE)`
-abbrev pub part : PartDef
+abbrev pub part : Part
 part = record { name = 112 ∷ []; bounds = Less None }
 
 -- `ALTER TABLE t ADD ROLLUP r (k)`, after a load
@@ -242,8 +243,8 @@ finished result task built = call advance (reply.Advanced 1 job_state.Finished) 
 
 -- the map of the rollup, and what it makes of rows
 abbrev pub map_of_r : RowMap
-map_of_r = rollup_map (shape_by def) (k ∷ [])
+map_of_r = rollup_map (shape_of def) (k ∷ [])
 
 -- what the plan of the next load has
 abbrev pub plan_with_r : ℕ → Plan
-plan_with_r id = record (plan id) { targets = record { index = 1; map = map_of_r } ∷ [] }
+plan_with_r id = record (plan id) { targets = record { index = 1; shape = map_of_r.to; map = map_of_r } ∷ [] }

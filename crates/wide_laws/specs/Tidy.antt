@@ -4,7 +4,8 @@ use Rattle.std.specs.List.{list_all, list_any}
 use Rattle.schema_models.specs.ShapeView.{ShapeView}
 use Rattle.dl_values.specs.declared.cell.Cell.{Cell}
 use Rattle.partitions.specs.LayoutView.{LayoutView}
-use Rattle.partitions.specs.LayoutRules.{IsLayout, with_part}
+use Rattle.partitions.specs.LayoutFaults.{with_part}
+use Rattle.partitions.specs.LayoutRules.{IsLayout}
 use Rattle.partitions.specs.Places.{IsInside, place_for}
 use Rattle.labels.specs.declared.txn_state.TxnState.{TxnState}
 use Rattle.labels.specs.declared.txn_state.TxnState.TheVariants as state
@@ -137,6 +138,7 @@ AllFrom id jobs = Each (λ (j : JobInfo). is_running j.state ≡ true → waters
 
 -- a load of a live table that is submitted for the first time
 pub record SubmitsNow (Es : List Event) (s : LoadSubmitted) : Type 0 where
+  pub first : 1 ≤ s.txn
   pub from : AllFrom s.txn (jobs_of Es)
   pub cancels : SpoilsNow Es s.table s.rows s.cancelled
   pub below : s.txn < next_of Es
@@ -264,7 +266,7 @@ Distinct ids = Pairs (λ i j. i ≡ j → ⊥) ids
 
 -- a later layout keeps the place of each row that is inside an earlier one
 abbrev pub KeepsPlaces : LayoutView → LayoutView → Type 0
-KeepsPlaces l k = (s : ShapeView) (row : List Cell) → IsInside l row → place_for k row ≡ place_for l row
+KeepsPlaces l k = (row : List Cell) → IsInside l row → place_for k row ≡ place_for l row
 
 -- a table that has the shape of a plan, and its layout or a longer one
 abbrev pub IsPlanned : ShapeView → LayoutView → Table → Type 0

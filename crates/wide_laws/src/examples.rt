@@ -18,7 +18,8 @@ ghost use Rattle.wide_defs.specs.Catalogue.{last_table_of};
 ghost use Rattle.wide_defs.specs.Legal.{Legal};
 ghost use Rattle.wide_defs.specs.May.{IsBuilt};
 ghost use Rattle.wide_defs.specs.Stored.{base_of, stored_of, version_of};
-ghost use Rattle.wide_defs.specs.Defines.{layout_by, shape_by};
+ghost use Rattle.table_defs.specs.Columns.{shape_of};
+ghost use Rattle.table_defs.specs.Defined.{layout_of};
 ghost use Rattle.schema_models.specs.Folds.{fold_of};
 ghost use Rattle.partitions.specs.Places.{rows_at};
 ghost use Rattle.row_map.specs.Maps.{conv};
@@ -226,5 +227,5 @@ pub fn a_rollup()
     ensures open_again { (built : Built) (task : Task) → OneAnswer (given Back task built) advance reply.NothingToAdvance }
     ensures ends { (built : Built) (task : Task) (rows : Arc Rowset Global) → OneAnswer (given (Rows rows) task built) advance (reply.Advanced 1 job_state.Finished) }
     ensures none { (built : Built) (task : Task) (rows : Arc Rowset Global) → OneAnswer (finished (Rows rows) task built) (command.CancelAlter d t job_kind.Rollup 50) reply.NoJob }
-    ensures lists { (built : Built) (task : Task) (rows : Arc Rowset Global) → stored_of (happened (finished (Rows rows) task built)) 1 1 ≡ fold_of map_of_r.to (conv map_of_r (rows_at (layout_by t def) (record { part = 0; bucket = 0 }) (base_of (happened (loaded built)) 1))) ∷ [] }
+    ensures lists { (built : Built) (task : Task) (rows : Arc Rowset Global) → stored_of (happened (finished (Rows rows) task built)) 1 1 ≡ fold_of map_of_r.to (conv map_of_r (rows_at (layout_of t def) (record { part = 0; bucket = 0 }) (base_of (happened (loaded built)) 1))) ∷ [] }
 {}

@@ -8,7 +8,8 @@ ghost use Rattle.schema_models.specs.ShapeView.{ShapeView};
 ghost use Rattle.row_map.specs.Maps.{AdmittedRollupsJoin};
 ghost use Rattle.wide_defs.specs.Indexes.{Index};
 ghost use Rattle.partitions.specs.LayoutView.{LayoutView};
-ghost use Rattle.partitions.specs.LayoutRules.{IsLayout, with_part};
+ghost use Rattle.partitions.specs.LayoutFaults.{with_part};
+ghost use Rattle.partitions.specs.LayoutRules.{IsLayout};
 ghost use Rattle.partitions.specs.declared.part_def.PartDef.{PartDef};
 ghost use Rattle.partitions.specs.Places.{AreInside, Place, lies_in};
 ghost use Rattle.std.specs.List.{AllByRecursion, list_any};
@@ -124,8 +125,8 @@ pub fn versions_count_the_loads()
 /// What a load was built with for a tablet is the list that its Publish adds there, also where partitions were added
 /// meanwhile.
 pub fn what_was_built_is_what_is_added()
-    ensures found { (s : ShapeView) (l : LayoutView) (target : Index) → IsLayout s l → (rows : List (List Cell)) (w : Place) → set_for w (sets_of s l target rows) ≡ cond (list_any (lies_in l w.part) rows && nat_lt w.bucket l.buckets) (Some (set_at s l target rows w)) None }
-    ensures stays { (s : ShapeView) (l : LayoutView) (p : PartDef) (target : Index) → IsLayout s l → (rows : List (List Cell)) → AreInside l rows → sets_of s (with_part p l) target rows ≡ sets_of s l target rows }
+    ensures found { (s : ShapeView) (l : LayoutView) (target : Index) → IsLayout s l → (rows : List (List Cell)) (w : Place) → set_for w (sets_of l target rows) ≡ cond (list_any (lies_in l w.part) rows && nat_lt w.bucket l.buckets) (Some (set_at l target rows w)) None }
+    ensures stays { (s : ShapeView) (l : LayoutView) (p : PartDef) (target : Index) → IsLayout s l → (rows : List (List Cell)) → AreInside l rows → sets_of (with_part p l) target rows ≡ sets_of l target rows }
 {}
 
 /// The law of seats. What a seat may give after a history it may give after each longer one, whoever called meanwhile.
