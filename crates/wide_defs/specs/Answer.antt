@@ -28,7 +28,7 @@ use Rattle.wide_defs.specs.Ids.{next_of}
 use Rattle.wide_defs.specs.Catalogue.{has_db, table_at, table_named, databases_of, tables_of}
 use Rattle.wide_defs.specs.Transactions.{is_prepare, is_precommitted, is_aborted, is_expired, is_over, sweeps, txn_at, txn_by, label_of, due, ahead_of, place_of, txns_of, places_of}
 use Rattle.schema_models.specs.Folds.{fold_of}
-use Rattle.wide_defs.specs.Stored.{base_of, source_of, stored_of, cost_of}
+use Rattle.wide_defs.specs.Stored.{base_of, indexed, source_of, stored_of, cost_of}
 use Rattle.partitions.specs.Places.{rows_at}
 use Rattle.row_map.specs.declared.map.RowMap.{RowMap}
 use Rattle.alter_core.specs.declared.job.JobInfo.{JobInfo}
@@ -38,8 +38,11 @@ use Rattle.history_convert.specs.declared.task.Piece.{Piece}
 use Rattle.wide_defs.specs.declared.command.AlterDef.{AlterDef}
 use Rattle.wide_defs.specs.Ids.{live_of}
 use Rattle.wide_defs.specs.Jobs.{TaskMark, TaskName, is_job_over, job_at, jobs_of, last_job_of, live_job, taken_of, tasks_of}
-use Rattle.wide_defs.specs.Indexes.{change_maps, nth, targets_of}
+use Rattle.sql_text.specs.declared.query.Query.{Query}
+use Rattle.wide_defs.specs.Indexes.{Index, change_maps, index_at, nth, targets_of}
 use Rattle.wide_defs.specs.Moves.{moved_state, next_move, next_task}
+use Rattle.wide_defs.specs.declared.show_what.ShowWhat.{ShowWhat}
+use Rattle.wide_defs.specs.Reports.{Reports, report, shown_refusal}
 use Rattle.wide_defs.specs.Alters.{refused_alter, job_of_kind, job_state_of, may_give, given_state}
 
 -- at most so many databases, and so many tables in all
@@ -238,25 +241,37 @@ TakenFor (Some a) taken live jobs tables source r = TakenOf a taken live (job_at
 abbrev pub give_refusals : Piece → ℕ → List JobInfo → List TaskMark → List (Option Reply)
 give_refusals piece live jobs tasks = refuse_if (not (nat_eq piece.born live)) (reply.Stale live) ∷ refuse_if (not (may_give piece jobs tasks)) (reply.TaskOver (job_state_of (job_at piece.job jobs))) ∷ []
 
+-- Show
+abbrev pub show_refusals : List ℕ → ShowWhat → List (List ℕ) → List Table → List Txn → List (Option Reply)
+show_refusals db what dbs tables txns = refuse_if (not (has_db db dbs)) reply.UnknownDb ∷ shown_refusal db what tables txns ∷ []
+
 -- Snapshot
 abbrev pub snapshot_refusals : List ℕ → List ℕ → List (List ℕ) → List Table → List (Option Reply)
 snapshot_refusals db table dbs tables = refuse_if (not (has_db db dbs)) reply.UnknownDb ∷ refuse_if (is_none (table_named db table tables)) reply.UnknownTable ∷ []
 
--- the shapes of the base, and lists that fold to the rows of the base and are no more than what is stored
-pub record ShowsBase (t : Table) (base : List (List Cell)) (cost : ℕ) (lists : List (List (List Cell))) : Type 0 where
-  pub rows : fold_of t.shape (flat_map (λ l. l) lists) ≡ base
+-- lists that fold to the rows of an index and are no more than what is stored of it
+pub record ShowsIndex (x : Index) (base : List (List Cell)) (cost : ℕ) (lists : List (List (List Cell))) : Type 0 where
+  pub rows : fold_of x.shape (flat_map (λ l. l) lists) ≡ indexed x base
   pub stored : length (flat_map (λ l. l) lists) ≤ cost
 
-abbrev pub Shows : Table → List (List Cell) → ℕ → Reply → Type 0
-Shows t base cost (reply.Snap s) = (s.base ≡ t.shape) × (s.index ≡ t.shape) × ShowsBase t base cost (map (λ l. rowset_rows l.value) s.lists)
-Shows t base cost _ = ⊥
+-- the number of the index that a query reads: the base, so far
+abbrev pub picked : Table → Query → ℕ
+picked t query = 0
 
-abbrev pub ShownFor : Option Table → (ℕ → List (List Cell)) → (ℕ → ℕ) → Reply → Type 0
-ShownFor None base cost r = ⊥
-ShownFor (Some t) base cost r = Shows t (base t.number) (cost t.number) r
+abbrev pub Shows : Table → Index → List (List Cell) → ℕ → Reply → Type 0
+Shows t x base cost (reply.Snap s) = (s.base ≡ t.shape) × (s.index ≡ x.shape) × ShowsIndex x base cost (map (λ l. rowset_rows l.value) s.lists)
+Shows t x base cost _ = ⊥
 
-abbrev pub Snaps : List ℕ → List ℕ → List (List ℕ) → List Table → (ℕ → List (List Cell)) → (ℕ → ℕ) → Reply → Type 0
-Snaps db table dbs tables base cost r = Answers (snapshot_refusals db table dbs tables) (ShownFor (table_named db table tables) base cost) r
+abbrev pub ShownOf : Table → Option Index → List (List Cell) → ℕ → Reply → Type 0
+ShownOf t None base cost r = ⊥
+ShownOf t (Some x) base cost r = Shows t x base cost r
+
+abbrev pub ShownFor : Option Table → Query → (ℕ → List (List Cell)) → (ℕ → ℕ → ℕ) → Reply → Type 0
+ShownFor None query base cost r = ⊥
+ShownFor (Some t) query base cost r = ShownOf t (index_at (picked t query) t) (base t.number) (cost t.number (picked t query)) r
+
+abbrev pub Snaps : List ℕ → List ℕ → Query → List (List ℕ) → List Table → (ℕ → List (List Cell)) → (ℕ → ℕ → ℕ) → Reply → Type 0
+Snaps db table query dbs tables base cost r = Answers (snapshot_refusals db table dbs tables) (ShownFor (table_named db table tables) query base cost) r
 
 -- The reply answers the command after what happened.
 abbrev pub Answer : List Event → Command → Reply → Type 0
@@ -266,7 +281,7 @@ Answer Es (command.Begin db table label two_phase at) r = Begins db table label 
 Answer Es (command.Submit txn built at) r = Submits txn at (txns_of Es) (places_of Es) r
 Answer Es (command.Publish at) r = Publishes (txns_of Es) r
 Answer Es (command.Abort db txn at) r = Aborts db txn (databases_of Es) (txns_of Es) r
-Answer Es (command.Snapshot db table query) r = Snaps db table (databases_of Es) (tables_of Es) (base_of Es) (λ t. cost_of (stored_of Es t 0)) r
+Answer Es (command.Snapshot db table query) r = Snaps db table query (databases_of Es) (tables_of Es) (base_of Es) (λ t index. cost_of (stored_of Es t index)) r
 Answer Es (command.DropTable db table if_exists at) r = Answers (drop_table_refusals db table if_exists (databases_of Es) (tables_of Es)) (λ r. r ≡ reply.Done) r
 Answer Es (command.AddPartition db table part) r = Answers (add_partition_refusals db table part (databases_of Es) (tables_of Es) (jobs_of Es)) (λ r. r ≡ reply.Done) r
 Answer Es (command.Commit db txn at) r = Answers (commit_refusals at (has_db db (databases_of Es)) (txn_by db txn (txns_of Es))) (CommittedFor (txn_by db txn (txns_of Es)) (txns_of Es) (places_of Es)) r
@@ -275,6 +290,8 @@ Answer Es (command.AddAlter db table def at) r = Answers (add_alter_refusals db 
 Answer Es (command.CancelAlter db table kind at) r = Answers (cancel_alter_refusals db table kind (databases_of Es) (tables_of Es) (jobs_of Es)) (CancelledFor (table_named db table (tables_of Es)) kind (jobs_of Es)) r
 Answer Es (command.Advance at) r = Answers (advance_refusals (next_move (jobs_of Es) (tables_of Es) (txns_of Es) (tasks_of Es))) (AdvancedFor (next_move (jobs_of Es) (tables_of Es) (txns_of Es) (tasks_of Es)) (tables_of Es) (txns_of Es)) r
 Answer Es command.Take r = Answers (take_refusals (next_task (jobs_of Es) (tables_of Es) (tasks_of Es))) (TakenFor (next_task (jobs_of Es) (tables_of Es) (tasks_of Es)) (taken_of Es) (live_of Es) (jobs_of Es) (tables_of Es) (source_of Es)) r
+Answer Es (command.Show db what) r = Answers (show_refusals db what (databases_of Es) (tables_of Es) (txns_of Es)) (Reports (report Es db what)) r
+Answer Es command.Restart r = Answers [] (λ r. r ≡ reply.Done) r
 Answer Es (command.Give piece at) r = Answers (give_refusals piece (live_of Es) (jobs_of Es) (tasks_of Es)) (λ r. r ≡ reply.Given piece.job (given_state piece.result)) r
 
 -- The refusals of a command after what happened, in their order.
@@ -294,4 +311,6 @@ refusals Es (command.AddAlter db table def at) = add_alter_refusals db table def
 refusals Es (command.CancelAlter db table kind at) = cancel_alter_refusals db table kind (databases_of Es) (tables_of Es) (jobs_of Es)
 refusals Es (command.Advance at) = advance_refusals (next_move (jobs_of Es) (tables_of Es) (txns_of Es) (tasks_of Es))
 refusals Es command.Take = take_refusals (next_task (jobs_of Es) (tables_of Es) (tasks_of Es))
+refusals Es (command.Show db what) = show_refusals db what (databases_of Es) (tables_of Es) (txns_of Es)
+refusals Es command.Restart = []
 refusals Es (command.Give piece at) = give_refusals piece (live_of Es) (jobs_of Es) (tasks_of Es)

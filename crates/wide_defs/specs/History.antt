@@ -20,7 +20,8 @@ use Rattle.wide_defs.specs.declared.history.Entry.TheVariants.{Told, Made}
 use Rattle.wide_defs.specs.Ids.{range_of, next_of, range_size}
 use Rattle.wide_defs.specs.Catalogue.{has_db, table_at, table_named, databases_of, tables_of}
 use Rattle.wide_defs.specs.Transactions.{sweeps_told, txn_at, txn_by, due, txns_of}
-use Rattle.wide_defs.specs.Answer.{label_for}
+use Rattle.schema_models.specs.Faults.{first_of}
+use Rattle.wide_defs.specs.Answer.{label_for, refusals}
 use Rattle.alter_core.specs.declared.job.Cause.TheVariants as cause
 use Rattle.alter_core.specs.declared.job.Change.{Change}
 use Rattle.alter_core.specs.declared.job.JobInfo.{JobInfo}
@@ -35,6 +36,20 @@ use Rattle.wide_defs.specs.Alters.{change_by, job_of_kind}
 
 -- the events that a record tells
 abbrev pub is_told : Event → Bool
+is_told (event.DbMade d) = true
+is_told (event.TableMade m) = true
+is_told (event.RangeDrawn r) = true
+is_told (event.LoadSubmitted s) = true
+is_told (event.TxnAborted a) = true
+is_told (event.LoadPublished p) = true
+is_told (event.PartAdded a) = true
+is_told (event.TableDropped d) = true
+is_told (event.LoadCommitted c) = true
+is_told (event.Swept s) = true
+is_told (event.JobAdded a) = true
+is_told (event.JobWaiting w) = true
+is_told (event.JobFinished f) = true
+is_told (event.JobCancelled c) = true
 is_told (event.TxnBegun b) = false
 is_told (event.TxnEnded x) = false
 is_told (event.SweptUntold s) = false
@@ -44,11 +59,36 @@ is_told (event.JobRan r) = false
 is_told (event.TaskTaken t) = false
 is_told (event.TaskGiven g) = false
 is_told event.Opened = false
-is_told _ = true
 
--- the records of what happened
+-- The records of what happened, by kind: each tells its event behind those before it, and what no record tells leaves none.
+abbrev pub recorded : Event → List Event → List Event
+recorded (event.DbMade d) Js = event.DbMade d ∷ Js
+recorded (event.TableMade m) Js = event.TableMade m ∷ Js
+recorded (event.RangeDrawn r) Js = event.RangeDrawn r ∷ Js
+recorded (event.LoadSubmitted s) Js = event.LoadSubmitted s ∷ Js
+recorded (event.TxnAborted a) Js = event.TxnAborted a ∷ Js
+recorded (event.LoadPublished p) Js = event.LoadPublished p ∷ Js
+recorded (event.PartAdded a) Js = event.PartAdded a ∷ Js
+recorded (event.TableDropped d) Js = event.TableDropped d ∷ Js
+recorded (event.LoadCommitted c) Js = event.LoadCommitted c ∷ Js
+recorded (event.Swept s) Js = event.Swept s ∷ Js
+recorded (event.JobAdded a) Js = event.JobAdded a ∷ Js
+recorded (event.JobWaiting w) Js = event.JobWaiting w ∷ Js
+recorded (event.JobFinished f) Js = event.JobFinished f ∷ Js
+recorded (event.JobCancelled c) Js = event.JobCancelled c ∷ Js
+recorded (event.TxnBegun b) Js = Js
+recorded (event.TxnEnded x) Js = Js
+recorded (event.SweptUntold s) Js = Js
+recorded (event.Compacted c) Js = Js
+recorded (event.WatershedDrawn w) Js = Js
+recorded (event.JobRan r) Js = Js
+recorded (event.TaskTaken t) Js = Js
+recorded (event.TaskGiven g) Js = Js
+recorded event.Opened Js = Js
+
 abbrev pub journal : List Event → List Event
-journal Es = filter is_told Es
+journal [] = []
+journal (e ∷ Es) = recorded e (journal Es)
 
 -- a thousand numbers more, where the last range is used up
 abbrev pub new_range : List Event → List Event
@@ -129,6 +169,8 @@ acted Es (command.CancelAlter db table kind at) = cancels at kind (jobs_of Es) (
 acted Es (command.Advance at) = moved at (next_of Es) (range_of Es) (tables_of Es) (txns_of Es) (next_move (jobs_of Es) (tables_of Es) (txns_of Es) (tasks_of Es))
 acted Es command.Take = takes (next_task (jobs_of Es) (tables_of Es) (tasks_of Es))
 acted Es (command.Give piece at) = gives piece at piece.result
+acted Es (command.Show db what) = []
+acted Es command.Restart = []
 
 -- how a call went
 pub data Outcome : Type 0 where
@@ -145,6 +187,7 @@ outcome (reply.Aborted txn) = Well
 outcome (reply.Committed txn place ahead) = Well
 outcome (reply.Swept aborted cleaned) = Well
 outcome (reply.Snap snapshot) = Well
+outcome (reply.Shown report) = Well
 outcome (reply.Added job) = Well
 outcome (reply.Cancelled job) = Well
 outcome (reply.Advanced job state) = Well
@@ -177,16 +220,31 @@ outcome reply.NoTask = Refused
 outcome (reply.Stale live) = Refused
 outcome (reply.TaskOver state) = Refused
 outcome reply.KeeperFault = Faulted
+outcome (reply.BadJournal seq) = Refused
 outcome reply.NoMemory = Refused
 
--- A call has its effect where it was answered well. Where the keeper failed and the record reached it all the same, it has the effect that the record tells.
-abbrev pub effect_of : Outcome → Bool → List Event → List Event
-effect_of Well took Es = Es
-effect_of Refused took Es = []
-effect_of Faulted took Es = cond took (journal Es) []
+-- What goes with an answer of which nothing else is told: what was asked for where it is answered well, and nothing with a refusal.
+abbrev pub done_by : Outcome → List Event → List Event
+done_by Well Es = Es
+done_by Refused Es = []
+done_by Faulted Es = []
+
+-- What a command would make happen now, whatever the answer: what goes with its first refusal, or what was asked for.
+abbrev pub would_by : Option Reply → List Event → List Event
+would_by None Es = Es
+would_by (Some r) Es = done_by (outcome r) Es
+
+abbrev pub would : List Event → Command → List Event
+would Es c = would_by (first_of (refusals Es c)) (acted Es c)
+
+-- A call has the effect that goes with its answer. Where the keeper failed and the record reached it all the same, it has the effect that the record tells.
+abbrev pub effect_of : Outcome → Bool → List Event → List Event → List Event
+effect_of Well took done kept = done
+effect_of Refused took done kept = []
+effect_of Faulted took done kept = cond took kept []
 
 abbrev pub effect : List Event → Command → Reply → Bool → List Event
-effect Es c r took = effect_of (outcome r) took (acted Es c)
+effect Es c r took = effect_of (outcome r) took (acted Es c) (journal (would Es c))
 
 -- its own opening comes first
 abbrev pub opening : Bool → List Event → List Event
@@ -197,6 +255,27 @@ abbrev pub happened : List Entry → List Event
 happened [] = []
 happened (Told e ∷ H) = e ∷ happened H
 happened (Made c ∷ H) = effect (opening c.opened (happened H)) c.command c.reply c.took ++ opening c.opened (happened H)
+
+-- the commands that open the service again
+abbrev pub restarts : Command → Bool
+restarts (command.CreateDb name if_not_exists) = false
+restarts (command.CreateTable db table def if_not_exists) = false
+restarts (command.DropTable db table if_exists at) = false
+restarts (command.AddPartition db table part) = false
+restarts (command.Begin db table label two_phase at) = false
+restarts (command.Submit txn built at) = false
+restarts (command.Publish at) = false
+restarts (command.Commit db txn at) = false
+restarts (command.Abort db txn at) = false
+restarts (command.Sweep at) = false
+restarts (command.AddAlter db table change at) = false
+restarts (command.CancelAlter db table kind at) = false
+restarts (command.Advance at) = false
+restarts command.Take = false
+restarts (command.Give piece at) = false
+restarts (command.Snapshot db table query) = false
+restarts (command.Show db what) = false
+restarts command.Restart = true
 
 -- the keeper failed, and no later step opened and met no fault
 abbrev pub broken_after : Outcome → Bool → Bool → Bool

@@ -32,6 +32,7 @@ use Rattle.wide_defs.specs.declared.event.JobAdded.{JobAdded}
 use Rattle.wide_defs.specs.declared.event.JobWaiting.{JobWaiting}
 use Rattle.wide_defs.specs.Jobs.{has_live, is_job_over, is_live, is_live_of, job_at, jobs_of, last_job_of, tasks_of}
 use Rattle.wide_defs.specs.Indexes.{change_maps}
+use Rattle.wide_defs.specs.Reports.{job_name_of}
 use Rattle.wide_defs.specs.Moves.{has_open_below, watershed_of}
 use Rattle.wide_defs.specs.Alters.{change_refusal}
 use Rattle.wide_defs.specs.History.{happened, journal}
@@ -153,6 +154,7 @@ pub record Agrees (Es Gs : List Event) : Type 0 where
   pub last_job : last_job_of Es ≡ last_job_of Gs
   pub jobs : jobs_of Es ≡ jobs_of Gs
   pub tasks : tasks_of Es ≡ tasks_of Gs
+  pub named : (job : ℕ) → job_name_of Es job ≡ job_name_of Gs job
   pub versions : (table part : ℕ) → version_of Es table part ≡ version_of Gs table part
   pub base : (table : ℕ) → base_of Es table ≡ base_of Gs table
   pub fresh : (table index : ℕ) (w : Place) → fresh_of Es table index w ≡ fresh_of Gs table index w

@@ -6,6 +6,8 @@ pub mod Catalogue
 pub mod Indexes
 pub mod Transactions
 pub mod Stored
+pub mod Words
+pub mod Reports
 pub mod Moves
 pub mod Alters
 pub mod Answer

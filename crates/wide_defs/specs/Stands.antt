@@ -1,6 +1,7 @@
 -- What a front has in its parts that stands for a history.
-use Rattle.std.specs.Prelude.{◌≡◌, ℕ, ◌≤◌, Bool, true, false, List, [], ◌++◌, Option, Some, None, IfSome, MatchOption, find, get_or, length, nat_eq, nat_lt}
+use Rattle.std.specs.Prelude.{◌≡◌, ℕ, ◌≤◌, Bool, true, false, List, [], ◌++◌, Option, Some, None, IfSome, MatchOption, map, reverse, find, get_or, length, nat_eq, nat_lt}
 use Rattle.std.specs.List.{AllByRecursion}
+use Rattle.std.specs.Option.{option_map}
 use Rattle.wide_defs.specs.declared.event.Event.{Event}
 use Rattle.wide_defs.specs.declared.catalogue.Table.{Table}
 use Rattle.wide_defs.specs.declared.txn.Txn.{Txn}
@@ -10,6 +11,8 @@ use Rattle.wide_defs.specs.Ids.{range_of, next_of, live_of}
 use Rattle.wide_defs.specs.Catalogue.{databases_of, last_table_of, table_at, tables_of}
 use Rattle.alter_core.specs.declared.job.JobInfo.{JobInfo}
 use Rattle.wide_defs.specs.Jobs.{TaskMark, is_done_task, jobs_of, last_job_of, running_job, taken_of, tasks_of}
+use Rattle.wide_defs.specs.Reports.{JobName, job_name_of}
+use Rattle.wide_defs.specs.Journal.{journal_of}
 use Rattle.wide_defs.specs.Indexes.{first_new, new_index, new_number}
 use Rattle.wide_defs.specs.Transactions.{txns_of, places_of}
 use Rattle.wide_defs.specs.Stored.{PlacedRows, StoredList, fixed_of, is_tablet_of, lists_of, since_of, source_of, version_of, waiting_of, whole_list}
@@ -31,7 +34,12 @@ pub record TableTablets : Type 0 where
   pub versions : List ℕ
   pub indexes : List IndexTablets
 
--- what contracts see of a front
+-- the names of a kept job, which may outlive its table
+pub record NamedJob : Type 0 where
+  pub job : ℕ
+  pub name : JobName
+
+-- what contracts see of a front; its keeper tells its records, the oldest first, or does not tell them
 pub record View : Type 0 where
   pub databases : List (List ℕ)
   pub tables : List Table
@@ -44,11 +52,13 @@ pub record View : Type 0 where
   pub waiting : List WaitingRows
   pub jobs : List JobInfo
   pub last_job : ℕ
+  pub job_names : List NamedJob
   pub taken : ℕ
   pub tasks : List TaskMark
   pub shadows : List TableTablets
   pub live : ℕ
   pub broken : Bool
+  pub records : Option (List (List ℕ))
   pub faults : ℕ
 
 -- what is stored of a table
@@ -132,9 +142,14 @@ ShadowStands Es shadows j index w t =
 pub record StandsShadows (v : View) (Es : List Event) : Type 0 where
   pub shadows : (table index : ℕ) (w : Place) → IfSome (running_job table (jobs_of Es)) (λ (j : JobInfo). IfSome (table_at table (tables_of Es)) (ShadowStands Es v.shadows j index w))
 
--- the jobs and their tasks
+-- the names of a job
+abbrev pub named_in : ℕ → List NamedJob → Option JobName
+named_in job names = option_map (λ (n : NamedJob). n.name) (find (λ (n : NamedJob). nat_eq n.job job) names)
+
+-- the jobs, their names and their tasks
 pub record StandsAlters (v : View) (Es : List Event) : Type 0 where
   pub jobs : v.jobs ≡ jobs_of Es
+  pub names : AllByRecursion (λ (j : JobInfo). named_in j.job v.job_names ≡ job_name_of Es j.job) (jobs_of Es)
   pub last_job : v.last_job ≡ last_job_of Es
   pub tasks : v.tasks ≡ tasks_of Es
 
@@ -144,9 +159,9 @@ pub record StandsJobs (v : View) (H : List Entry) : Type 0 where
   pub taken : v.taken ≡ taken_of (happened H)
   pub broken : v.broken ≡ broken_of H
 
--- a front has no keeper yet
-abbrev pub StandsKeeper : View → List Entry → Type 0
-StandsKeeper v H = Unit {0}
+-- The keeper tells its records, and they are the journal as a format spells it, the oldest first. Over a keeper that tells nothing a front stands for no history.
+abbrev pub StandsKeeper : (Event → List ℕ) → View → List Entry → Type 0
+StandsKeeper spelling v H = v.records ≡ Some (map spelling (reverse (journal_of H)))
 
 -- the count of faults, where there was a call
 abbrev pub StandsCount : View → List Entry → Type 0
@@ -160,9 +175,8 @@ pub record StandsOpen (v : View) (Es : List Event) : Type 0 where
   pub alters : StandsAlters v Es
   pub shadows : StandsShadows v Es
 
--- After a fault of the keeper these parts are as they may be, since the next step opens before it acts.
+-- After a fault of the keeper these parts are as they may be, since the next step opens before it acts. A front has no keeper yet, so that nothing is asked of its records.
 pub record Stands (v : View) (H : List Entry) : Type 0 where
   pub jobs : StandsJobs v H
-  pub keeper : StandsKeeper v H
   pub count : StandsCount v H
   pub open_parts : broken_of H ≡ false → StandsOpen v (happened H)

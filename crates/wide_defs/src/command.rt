@@ -1,4 +1,5 @@
 // What the core of the service is asked.
+use crate::ShowWhat;
 use alter_core::JobKind;
 use dl_values::Name;
 use history_convert::Piece;
@@ -94,6 +95,13 @@ pub enum Command {
         table: Name,
         query: Query,
     },
+    /// Asks for a report.
+    Show {
+        db: Name,
+        what: ShowWhat,
+    },
+    /// Opens the service again from its records.
+    Restart,
 }
 
 /// What an alteration asks for.

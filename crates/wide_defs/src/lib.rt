@@ -8,6 +8,7 @@ mod command;
 mod event;
 mod history;
 mod reply;
+mod show_what;
 mod turns;
 mod txn;
 
@@ -21,5 +22,6 @@ pub use event::{
 };
 pub use history::{Call, Entry};
 pub use reply::{Placed, Reply};
+pub use show_what::ShowWhat;
 pub use turns::Turns;
 pub use txn::Txn;

@@ -1,6 +1,7 @@
 // What the core of the service answers.
 use crate::AlterError;
 use alter_core::JobState;
+use dl_values::ResultSet;
 use history_convert::Task;
 use labels::TxnState;
 use merge_read::Snapshot;
@@ -22,6 +23,7 @@ pub enum Reply {
     Aborted { txn: u64 },
     Swept { aborted: u64, cleaned: u64 },
     Snap { snapshot: Snapshot<Arc<Rowset>> },
+    Shown { report: ResultSet },
     Added { job: u64 },
     Cancelled { job: u64 },
     Advanced { job: u64, state: JobState },
@@ -62,6 +64,8 @@ pub enum Reply {
     TaskOver { state: JobState },
     /// The keeper of the records failed in this call.
     KeeperFault,
+    /// That record is damaged, or does not follow the ones before it. No legal history has this answer.
+    BadJournal { seq: u64 },
     NoMemory,
 }
 

@@ -16,6 +16,7 @@ use Rattle.sql_text.specs.declared.part.Part.{Part}
 use Rattle.sql_text.specs.declared.table_def.TableDef.{TableDef}
 use Rattle.table_defs.specs.declared.def_error.DefError.{DefError}
 use Rattle.table_defs.specs.declared.def_error.DefError.TheVariants as def_error
+use Rattle.wide_laws.proofs.Journals.{journal_cons}
 use Rattle.wide_defs.specs.declared.event.Event.{Event}
 use Rattle.wide_defs.specs.declared.event.Event.TheVariants as event
 use Rattle.wide_defs.specs.declared.event.TxnBegun.{TxnBegun}
@@ -619,17 +620,22 @@ acted_happens Es (command.Sweep at) k al shaped h = sweep_happens Es at (list_an
 acted_happens Es (command.AddAlter db table def at) k al shaped h = alter_accepted Es db table def at k h
 acted_happens Es (command.CancelAlter db table kind at) k al shaped h = cancel_happens Es at kind (table_named db table (tables_of Es)) al
 acted_happens Es (command.Advance at) k al shaped h = advance_happens Es at (next_move (jobs_of Es) (tables_of Es) (txns_of Es) (tasks_of Es)) k al refl
+acted_happens Es (command.Show db what) k al shaped h = tt
+acted_happens Es command.Restart k al shaped h = tt
 acted_happens Es command.Take k al shaped h = take_happens Es (next_task (jobs_of Es) (tables_of Es) (tasks_of Es))
 acted_happens Es (command.Give piece at) k al shaped h = give_happens Es piece at piece.result (given_well piece (live_of Es) (jobs_of Es) (tasks_of Es) h)
 
 -- Of what it makes happen, the records alone may happen too.
-one_told : (e : Event) (Es : List Event) (b : Bool) → HappenAll (e ∷ []) Es → HappenAll (cond b (e ∷ []) []) Es
-one_told e Es true h = h
-one_told e Es false h = tt
+one_told : (e : Event) (Es : List Event) → HappenAll (e ∷ []) Es → HappenAll (journal (e ∷ [])) Es
+one_told e Es h = subst (λ (l : List Event). HappenAll l Es) (sym (journal_cons e [])) (go (is_told e))
+  where
+    go : (b : Bool) → HappenAll (cond b (e ∷ []) []) Es
+    go true = h
+    go false = tt
 
 event_told : (Es : List Event) (e : Event) (b : Bool) → HappenAll (cond b [] (e ∷ [])) Es → HappenAll (journal (cond b [] (e ∷ []))) Es
 event_told Es e true h = tt
-event_told Es e false h = one_told e Es (is_told e) h
+event_told Es e false h = one_told e Es h
 
 range_told : (Es : List Event) → journal (new_range Es) ≡ new_range Es
 range_told Es = elim (nat_lt (range_of Es) (next_of Es)) as (λ b. journal (range_if b Es) ≡ range_if b Es) [ true ↦ refl | false ↦ refl ]
@@ -640,7 +646,7 @@ begin_told Es label two_phase at (Some t) = range_told Es
 
 kept_told : {X : Type 0} (o : Option X) (f : Option X → List Event) (g : X → Event) (Es : List Event) → f None ≡ [] → ((x : X) → f (Some x) ≡ g x ∷ []) → HappenAll (f o) Es → HappenAll (journal (f o)) Es
 kept_told None f g Es n k h = subst (λ (l : List Event). HappenAll (journal l) Es) (sym n) tt
-kept_told (Some x) f g Es n k h = subst (λ (l : List Event). HappenAll (journal l) Es) (sym (k x)) (one_told (g x) Es (is_told (g x)) (subst (λ (l : List Event). HappenAll l Es) (k x) h))
+kept_told (Some x) f g Es n k h = subst (λ (l : List Event). HappenAll (journal l) Es) (sym (k x)) (one_told (g x) Es (subst (λ (l : List Event). HappenAll l Es) (k x) h))
 
 pub told_happens : (Es : List Event) (c : Command) → Tidy Es → Alters Es → Shaped Es c → first_of (refusals Es c) ≡ None → HappenAll (journal (acted Es c)) Es
 told_happens Es (command.CreateDb name if_not_exists) k al shaped h = event_told Es (event.DbMade (record { name = name })) (has_db name (databases_of Es)) (acted_happens Es (command.CreateDb name if_not_exists) k al shaped h)
@@ -661,5 +667,7 @@ told_happens Es (command.CancelAlter db table kind at) k al shaped h = go (table
     go None = tt
     go (Some t) = kept_told (job_of_kind t.number kind (jobs_of Es)) (cancels_job at) (λ (x : JobInfo). event.JobCancelled (record { job = x.job; at = at; cause = cause.Command })) Es refl (λ x. refl) (cancel_job_happens Es t.number at kind (job_of_kind t.number kind (jobs_of Es)) al refl)
 told_happens Es (command.Advance at) k al shaped h = advance_told Es at (next_move (jobs_of Es) (tables_of Es) (txns_of Es) (tasks_of Es)) k al refl
+told_happens Es (command.Show db what) k al shaped h = tt
+told_happens Es command.Restart k al shaped h = tt
 told_happens Es command.Take k al shaped h = take_told Es (next_task (jobs_of Es) (tables_of Es) (tasks_of Es))
 told_happens Es (command.Give piece at) k al shaped h = give_told Es piece at piece.result (given_well piece (live_of Es) (jobs_of Es) (tasks_of Es) h)

@@ -392,6 +392,8 @@ begin_covers Es (command.CancelAlter db table kind at) r took txn plan g b e = a
 begin_covers Es (command.Advance at) r took txn plan g b e = absurd b
 begin_covers Es command.Take r took txn plan g b e = absurd b
 begin_covers Es (command.Give piece at) r took txn plan g b e = absurd b
+begin_covers Es (command.Show db what) r took txn plan g b e = absurd b
+begin_covers Es command.Restart r took txn plan g b e = absurd b
 
 new_covers : (c : Call) (H : List Entry) (txn : ℕ) (built : Built) → Good (happened H) → Answer (opening c.opened (happened H)) c.command c.reply ⊎ (c.reply ≡ reply.KeeperFault) → PlannedBy txn built c.reply → Covers (happened (Made c ∷ H)) txn (target_maps built.plan.targets)
 new_covers c H txn built g (inr f) p = absurd (let k = planned_is txn built c.reply p in let z = k.1 in cc (z, f))

@@ -9,6 +9,7 @@ use Rattle.partitions.specs.LayoutFaults.{with_part}
 use Rattle.partitions.specs.LayoutRules.{IsLayout}
 use Rattle.partitions.specs.Places.{AreInside}
 use Rattle.partitions.proofs.Places.{place_stays}
+use Rattle.wide_laws.proofs.Replies.{refused_well}
 use Rattle.wide_defs.specs.declared.event.PartAdded.{PartAdded}
 use Rattle.schema_models.specs.Faults.{first_of}
 use Rattle.labels.specs.declared.txn_state.TxnState.{TxnState}
@@ -32,7 +33,7 @@ use Rattle.wide_defs.specs.Catalogue.{finished_in, is_named, table_named, table_
 use Rattle.wide_defs.specs.Transactions.{is_aborted, txn_at, txns_of, changed, submitted_txn, begun_txn, aborted_at, visible_at, committed_at, dropped, dropped_at, is_expired, is_over, sweep, swept_at, places_of, due}
 use Rattle.wide_defs.specs.Stored.{AreRowsOf}
 use Rattle.wide_defs.specs.Answer.{refusals, plan_of, Answer}
-use Rattle.wide_defs.specs.History.{new_range, begins, acted, Outcome, Well, Refused, Faulted, outcome, effect, effect_of, opening, happened}
+use Rattle.wide_defs.specs.History.{new_range, begins, acted, done_by, journal, would, would_by, Outcome, Well, Refused, Faulted, outcome, effect, effect_of, opening, happened}
 use Rattle.alter_core.specs.declared.job.Cause.TheVariants as cause
 use Rattle.alter_core.specs.declared.job.JobInfo.{JobInfo}
 use Rattle.wide_defs.specs.Jobs.{added_job, cancelled_job, changed_job, dropped_job, finished_job, is_job_over, is_live, is_live_of, is_running, job_at, jobs_of, running_job, spoiled_job, waiting_job}
@@ -209,18 +210,30 @@ shaped_now H (command.CancelAlter db table kind at) opened g p m = tt
 shaped_now H (command.Advance at) opened g p m = tt
 shaped_now H command.Take opened g p m = tt
 shaped_now H (command.Give piece at) opened g p m = tt
+shaped_now H (command.Show db what) opened g p m = tt
+shaped_now H command.Restart opened g p m = tt
 
-by_outcome : (Es : List Event) (c : Command) (r : Reply) (took : Bool) (o : Outcome) → outcome r ≡ o → Good Es → Shaped Es c → Answer Es c r ⊎ (r ≡ reply.KeeperFault) → (took ≡ true → first_of (refusals Es c) ≡ None) → HappenAll (effect_of o took (acted Es c)) Es
-by_outcome Es c r took Well is g s (inl a) k = elim (went_well Es c r a is) [ inl h ↦ acted_happens Es c g.tidy g.alters s h | inr n ↦ subst (λ (l : List Event). HappenAll l Es) (sym n) tt ]
-by_outcome Es c r took Well is g s (inr f) k = absurd (let z : outcome r ≡ Faulted = ap outcome f in cc (z, is))
-by_outcome Es c r took Refused is g s a k = tt
-by_outcome Es c r true Faulted is g s a k = told_happens Es c g.tidy g.alters s (k refl)
-by_outcome Es c r false Faulted is g s a k = tt
+-- The records of what a command would make happen now may happen.
+would_told : (Es : List Event) (c : Command) (o : Option Reply) → first_of (refusals Es c) ≡ o → Good Es → Shaped Es c → HappenAll (journal (would_by o (acted Es c))) Es
+would_told Es c None is g s = told_happens Es c g.tidy g.alters s is
+would_told Es c (Some r) is g s = go (outcome r) refl
+  where
+    go : (x : Outcome) → outcome r ≡ x → HappenAll (journal (done_by x (acted Es c))) Es
+    go Well e = subst (λ (l : List Event). HappenAll (journal l) Es) (sym (refused_well Es c r is e)) tt
+    go Refused e = tt
+    go Faulted e = tt
+
+by_outcome : (Es : List Event) (c : Command) (r : Reply) (took : Bool) (o : Outcome) → outcome r ≡ o → Good Es → Shaped Es c → Answer Es c r ⊎ (r ≡ reply.KeeperFault) → HappenAll (effect_of o took (acted Es c) (journal (would Es c))) Es
+by_outcome Es c r took Well is g s (inl a) = elim (went_well Es c r a is) [ inl h ↦ acted_happens Es c g.tidy g.alters s h | inr n ↦ subst (λ (l : List Event). HappenAll l Es) (sym n) tt ]
+by_outcome Es c r took Well is g s (inr f) = absurd (let z : outcome r ≡ Faulted = ap outcome f in cc (z, is))
+by_outcome Es c r took Refused is g s a = tt
+by_outcome Es c r true Faulted is g s a = would_told Es c (first_of (refusals Es c)) refl g s
+by_outcome Es c r false Faulted is g s a = tt
 
 pub went : (c : Call) (H : List Entry) → IsLegal c H → Good (happened H) → Plans H → Went c (happened H)
 went c H l g p =
     let Es = opening c.opened (happened H) in
-    by_outcome Es c.command c.reply c.took (outcome c.reply) refl (opened_good c.opened (happened H) g) (shaped_now H c.command c.opened g p l.may) l.answer (λ t. (l.marks.took t).2.well)
+    by_outcome Es c.command c.reply c.took (outcome c.reply) refl (opened_good c.opened (happened H) g) (shaped_now H c.command c.opened g p l.may) l.answer
 
 -- The plan that a Begin gives holds from then on.
 begun_here : (Es : List Event) (db table : List ℕ) (label : Option (List ℕ)) (two_phase : Bool) (at : ℕ) (t : Table) → Good Es → table_named db table (tables_of Es) ≡ Some t → PlanHolds (begins (next_of Es) label two_phase at (Some t) ++ new_range Es ++ Es) (next_of Es) t.shape t.layout
@@ -258,6 +271,8 @@ begin_holds Es (command.CancelAlter db table kind at) r took txn plan g b e = ab
 begin_holds Es (command.Advance at) r took txn plan g b e = absurd b
 begin_holds Es command.Take r took txn plan g b e = absurd b
 begin_holds Es (command.Give piece at) r took txn plan g b e = absurd b
+begin_holds Es (command.Show db what) r took txn plan g b e = absurd b
+begin_holds Es command.Restart r took txn plan g b e = absurd b
 
 pub planned_is : (txn : ℕ) (built : Built) (r : Reply) → PlannedBy txn built r → (plan : Plan) × (r ≡ reply.Begun txn plan) × IsBuilt plan built
 planned_is txn built (reply.Begun id plan) h = (plan, ap (λ (n : ℕ). reply.Begun n plan) (sym h.0), h.1)

@@ -42,6 +42,7 @@ use Rattle.wide_defs.specs.declared.event.JobFinished.{JobFinished}
 use Rattle.wide_defs.specs.declared.event.JobCancelled.{JobCancelled}
 use Rattle.wide_defs.specs.Jobs.{added_job, cancelled_job, changed_job, dropped_job, finished_job, is_job_over, is_live, is_live_of, is_running, job_at, jobs_after, jobs_of, last_job_after, last_job_of, ran_job, reopened_job, spoiled_job, taken_of, tasks_after, waiting_job, waits_again}
 use Rattle.wide_defs.specs.Indexes.{Index, new_index}
+use Rattle.wide_defs.specs.Reports.{JobName, job_name_after, job_name_of}
 use Rattle.wide_defs.specs.History.{journal}
 use Rattle.wide_defs.specs.Journal.{Agrees}
 use Rattle.wide_laws.specs.Tidy.{Each, Fits, Sound}
@@ -68,6 +69,7 @@ pub record Vanishes (e : Event) (ts : List Txn) (js : List JobInfo) : Type 0 whe
   pub last_table : (n : ℕ) → last_table_after e n ≡ n
   pub last_job : (n : ℕ) → last_job_after e n ≡ n
   pub jobs : map reopened_job (jobs_after e js) ≡ map reopened_job js
+  pub named : (job : ℕ) (tables : List Table) (o : Option JobName) → job_name_after e job tables o ≡ o
   pub tables : (n : ℕ) (l : List Table) → tables_after e n js l ≡ l
   pub range : (r : ℕ) → range_after e r ≡ r
   pub told_ids : (l : List ℕ) → told_ids_after e l ≡ l
@@ -82,6 +84,7 @@ goes_on e Es Js c a = record {
   databases = ap (databases_after e) a.databases;
   last_table = ap (last_table_after e) a.last_table;
   last_job = ap (last_job_after e) a.last_job;
+  named = λ job. ap (job_name_after e job (tables_of Es)) (a.named job) ∙ ap (λ (bs : List Table). job_name_after e job bs (job_name_of Js job)) a.tables;
   jobs = c.jobs ∙ ap (jobs_after e) a.jobs;
   tasks = sym (ap (tasks_after e (taken_of Js)) (sym a.tasks) ∙ c.tasks (taken_of Js));
   tables = c.tables (last_table_of Es) (tables_of Es) ∙ ap (λ (n : ℕ). tables_after e n (map reopened_job (jobs_of Es)) (tables_of Es)) a.last_table ∙ ap (λ (js : List JobInfo). tables_after e (last_table_of Js) js (tables_of Es)) a.jobs ∙ ap (tables_after e (last_table_of Js) (jobs_of Js)) a.tables;
@@ -121,6 +124,7 @@ is_lost e Es Js v a = record {
   databases = v.databases (databases_of Es) ∙ a.databases;
   last_table = v.last_table (last_table_of Es) ∙ a.last_table;
   last_job = v.last_job (last_job_of Es) ∙ a.last_job;
+  named = λ job. v.named job (tables_of Es) (job_name_of Es job) ∙ a.named job;
   jobs = v.jobs ∙ a.jobs;
   tasks = a.tasks;
   tables = v.tables (last_table_of Es) (tables_of Es) ∙ a.tables;
@@ -365,39 +369,39 @@ untold_swept at (t ∷ ts) h = go (sweeps_told at t) refl h (untold_swept at ts)
     go false e k rest = untold_cons at t ts t.told (is_expired at t) (is_over at t) refl refl refl e (rest k)
 
 -- One for each event that leaves no record.
-vanishes : (e : Event) (ts : List Txn) (js : List JobInfo) → ((l : List (List ℕ)) → databases_after e l ≡ l) → ((n : ℕ) → last_table_after e n ≡ n) → ((n : ℕ) (l : List Table) → tables_after e n js l ≡ l) → ((r : ℕ) → range_after e r ≡ r) → ((l : List ℕ) → told_ids_after e l ≡ l) → ((l : ℕ) → places_after e l ≡ l) → ((tables : List Table) (last : ℕ) → filter told (txns_after e tables last ts) ≡ filter told ts) → ((table : ℕ) (tables : List Table) (b : List (List Cell)) → base_after e table tables ts b ≡ b) → ((table index : ℕ) (w : Place) (v : ℕ) (tables : List Table) (b : List (List Cell)) (l : List StoredList) → fresh_after e table index w v tables ts js b l ≡ l) → ((table part : ℕ) (tables : List Table) (v : ℕ) → version_after e table part tables ts v ≡ v) → ((n : ℕ) → last_job_after e n ≡ n) → map reopened_job (jobs_after e js) ≡ map reopened_job js → Vanishes e ts js
-vanishes e ts js a b c d f g h i j k l m = record { databases = a; last_table = b; tables = c; range = d; told_ids = f; places = g; txns = h; base = i; fresh = j; versions = k; last_job = l; jobs = m }
+vanishes : (e : Event) (ts : List Txn) (js : List JobInfo) → ((l : List (List ℕ)) → databases_after e l ≡ l) → ((n : ℕ) → last_table_after e n ≡ n) → ((n : ℕ) (l : List Table) → tables_after e n js l ≡ l) → ((r : ℕ) → range_after e r ≡ r) → ((l : List ℕ) → told_ids_after e l ≡ l) → ((l : ℕ) → places_after e l ≡ l) → ((tables : List Table) (last : ℕ) → filter told (txns_after e tables last ts) ≡ filter told ts) → ((table : ℕ) (tables : List Table) (b : List (List Cell)) → base_after e table tables ts b ≡ b) → ((table index : ℕ) (w : Place) (v : ℕ) (tables : List Table) (b : List (List Cell)) (l : List StoredList) → fresh_after e table index w v tables ts js b l ≡ l) → ((table part : ℕ) (tables : List Table) (v : ℕ) → version_after e table part tables ts v ≡ v) → ((n : ℕ) → last_job_after e n ≡ n) → map reopened_job (jobs_after e js) ≡ map reopened_job js → ((job : ℕ) (tables : List Table) (o : Option JobName) → job_name_after e job tables o ≡ o) → Vanishes e ts js
+vanishes e ts js a b c d f g h i j k l m q = record { named = q; databases = a; last_table = b; tables = c; range = d; told_ids = f; places = g; txns = h; base = i; fresh = j; versions = k; last_job = l; jobs = m }
 
 of_begun : (b : TxnBegun) (ts : List Txn) (js : List JobInfo) → Vanishes (event.TxnBegun b) ts js
-of_begun b ts js = vanishes (event.TxnBegun b) ts js (λ l. refl) (λ n. refl) (λ n l. refl) (λ r. refl) (λ l. refl) (λ l. refl) (λ tables last. filter_append told ts (begun_txn b ∷ []) ∙ append-nil (filter told ts)) (λ table tables b. refl) (λ table index w v tables b l. refl) (λ table part tables v. refl) (λ n. refl) refl
+of_begun b ts js = vanishes (event.TxnBegun b) ts js (λ l. refl) (λ n. refl) (λ n l. refl) (λ r. refl) (λ l. refl) (λ l. refl) (λ tables last. filter_append told ts (begun_txn b ∷ []) ∙ append-nil (filter told ts)) (λ table tables b. refl) (λ table index w v tables b l. refl) (λ table part tables v. refl) (λ n. refl) refl (λ job tables o. refl)
 
 of_ended : (x : TxnEnded) (ts : List Txn) (js : List JobInfo) → Fits (event.TxnEnded x) ts js → Vanishes (event.TxnEnded x) ts js
-of_ended x ts js fits = vanishes (event.TxnEnded x) ts js (λ l. refl) (λ n. refl) (λ n l. refl) (λ r. refl) (λ l. refl) (λ l. refl) (λ tables last. of_change x.txn (aborted_at x.at) (λ t. refl) ts ∙ unchanged x.txn (aborted_at x.at) (filter told ts) fits) (λ table tables b. refl) (λ table index w v tables b l. refl) (λ table part tables v. refl) (λ n. refl) refl
+of_ended x ts js fits = vanishes (event.TxnEnded x) ts js (λ l. refl) (λ n. refl) (λ n l. refl) (λ r. refl) (λ l. refl) (λ l. refl) (λ tables last. of_change x.txn (aborted_at x.at) (λ t. refl) ts ∙ unchanged x.txn (aborted_at x.at) (filter told ts) fits) (λ table tables b. refl) (λ table index w v tables b l. refl) (λ table part tables v. refl) (λ n. refl) refl (λ job tables o. refl)
 
 of_opened : (ts : List Txn) (js : List JobInfo) → Vanishes event.Opened ts js
-of_opened ts js = vanishes event.Opened ts js (λ l. refl) (λ n. refl) (λ n l. refl) (λ r. refl) (λ l. refl) (λ l. refl) (λ tables last. filter_twice told ts) (λ table tables b. refl) (λ table index w v tables b l. refl) (λ table part tables v. refl) (λ n. refl) (reopened_twice js)
+of_opened ts js = vanishes event.Opened ts js (λ l. refl) (λ n. refl) (λ n l. refl) (λ r. refl) (λ l. refl) (λ l. refl) (λ tables last. filter_twice told ts) (λ table tables b. refl) (λ table index w v tables b l. refl) (λ table part tables v. refl) (λ n. refl) (reopened_twice js) (λ job tables o. refl)
 
 of_untold : (s : SweptUntold) (ts : List Txn) (js : List JobInfo) → Fits (event.SweptUntold s) ts js → Vanishes (event.SweptUntold s) ts js
-of_untold s ts js fits = vanishes (event.SweptUntold s) ts js (λ l. refl) (λ n. refl) (λ n l. refl) (λ r. refl) (λ l. refl) (λ l. refl) (λ tables last. sweep_told s.at ts ∙ untold_swept s.at ts fits) (λ table tables b. refl) (λ table index w v tables b l. refl) (λ table part tables v. refl) (λ n. refl) refl
+of_untold s ts js fits = vanishes (event.SweptUntold s) ts js (λ l. refl) (λ n. refl) (λ n l. refl) (λ r. refl) (λ l. refl) (λ l. refl) (λ tables last. sweep_told s.at ts ∙ untold_swept s.at ts fits) (λ table tables b. refl) (λ table index w v tables b l. refl) (λ table part tables v. refl) (λ n. refl) refl (λ job tables o. refl)
 
 of_compacted : (c : Compacted) (ts : List Txn) (js : List JobInfo) → Vanishes (event.Compacted c) ts js
-of_compacted c ts js = vanishes (event.Compacted c) ts js (λ l. refl) (λ n. refl) (λ n l. refl) (λ r. refl) (λ l. refl) (λ l. refl) (λ tables last. refl) (λ table tables b. refl) (λ table index w v tables b l. refl) (λ table part tables v. refl) (λ n. refl) refl
+of_compacted c ts js = vanishes (event.Compacted c) ts js (λ l. refl) (λ n. refl) (λ n l. refl) (λ r. refl) (λ l. refl) (λ l. refl) (λ tables last. refl) (λ table tables b. refl) (λ table index w v tables b l. refl) (λ table part tables v. refl) (λ n. refl) refl (λ job tables o. refl)
 
 of_drawn : (x : WatershedDrawn) (ts : List Txn) (js : List JobInfo) → Vanishes (event.WatershedDrawn x) ts js
-of_drawn x ts js = vanishes (event.WatershedDrawn x) ts js (λ l. refl) (λ n. refl) (λ n l. refl) (λ r. refl) (λ l. refl) (λ l. refl) (λ tables last. refl) (λ table tables b. refl) (λ table index w v tables b l. refl) (λ table part tables v. refl) (λ n. refl) refl
+of_drawn x ts js = vanishes (event.WatershedDrawn x) ts js (λ l. refl) (λ n. refl) (λ n l. refl) (λ r. refl) (λ l. refl) (λ l. refl) (λ tables last. refl) (λ table tables b. refl) (λ table index w v tables b l. refl) (λ table part tables v. refl) (λ n. refl) refl (λ job tables o. refl)
 
 of_ran : (x : JobRan) (ts : List Txn) (js : List JobInfo) → Fits (event.JobRan x) ts js → Vanishes (event.JobRan x) ts js
-of_ran x ts js fits = vanishes (event.JobRan x) ts js (λ l. refl) (λ n. refl) (λ n l. refl) (λ r. refl) (λ l. refl) (λ l. refl) (λ tables last. refl) (λ table tables b. refl) (λ table index w v tables b l. refl) (λ table part tables v. refl) (λ n. refl) (ran_again x.job js fits)
+of_ran x ts js fits = vanishes (event.JobRan x) ts js (λ l. refl) (λ n. refl) (λ n l. refl) (λ r. refl) (λ l. refl) (λ l. refl) (λ tables last. refl) (λ table tables b. refl) (λ table index w v tables b l. refl) (λ table part tables v. refl) (λ n. refl) (ran_again x.job js fits) (λ job tables o. refl)
 
 of_taken : (x : TaskTaken) (ts : List Txn) (js : List JobInfo) → Vanishes (event.TaskTaken x) ts js
-of_taken x ts js = vanishes (event.TaskTaken x) ts js (λ l. refl) (λ n. refl) (λ n l. refl) (λ r. refl) (λ l. refl) (λ l. refl) (λ tables last. refl) (λ table tables b. refl) (λ table index w v tables b l. refl) (λ table part tables v. refl) (λ n. refl) refl
+of_taken x ts js = vanishes (event.TaskTaken x) ts js (λ l. refl) (λ n. refl) (λ n l. refl) (λ r. refl) (λ l. refl) (λ l. refl) (λ tables last. refl) (λ table tables b. refl) (λ table index w v tables b l. refl) (λ table part tables v. refl) (λ n. refl) refl (λ job tables o. refl)
 
 of_given : (x : TaskGiven) (ts : List Txn) (js : List JobInfo) → Vanishes (event.TaskGiven x) ts js
-of_given x ts js = vanishes (event.TaskGiven x) ts js (λ l. refl) (λ n. refl) (λ n l. refl) (λ r. refl) (λ l. refl) (λ l. refl) (λ tables last. refl) (λ table tables b. refl) (λ table index w v tables b l. refl) (λ table part tables v. refl) (λ n. refl) refl
+of_given x ts js = vanishes (event.TaskGiven x) ts js (λ l. refl) (λ n. refl) (λ n l. refl) (λ r. refl) (λ l. refl) (λ l. refl) (λ tables last. refl) (λ table tables b. refl) (λ table index w v tables b l. refl) (λ table part tables v. refl) (λ n. refl) refl (λ job tables o. refl)
 
 -- What a journal tells is what an opening leaves.
 pub agreement : (Es : List Event) → Sound Es → Agrees (event.Opened ∷ Es) (journal Es)
-agreement [] s = record { databases = refl; last_table = refl; tables = refl; range = refl; next = refl; told = refl; places = refl; txns = refl; versions = λ table part. refl; base = λ table. refl; fresh = λ table index w. refl; lists = λ table index w. refl; last_job = refl; jobs = refl; tasks = refl }
+agreement [] s = record { named = λ job. refl; databases = refl; last_table = refl; tables = refl; range = refl; next = refl; told = refl; places = refl; txns = refl; versions = λ table part. refl; base = λ table. refl; fresh = λ table index w. refl; lists = λ table index w. refl; last_job = refl; jobs = refl; tasks = refl }
 agreement (event.DbMade d ∷ Es) s = goes_on (event.DbMade d) Es (journal Es) (of_database d (txns_of Es) (jobs_of Es)) (agreement Es s.1)
 agreement (event.TableMade m ∷ Es) s = goes_on (event.TableMade m) Es (journal Es) (of_table m (txns_of Es) (jobs_of Es)) (agreement Es s.1)
 agreement (event.RangeDrawn r ∷ Es) s = goes_on (event.RangeDrawn r) Es (journal Es) (of_range r (txns_of Es) (jobs_of Es)) (agreement Es s.1)

@@ -12,6 +12,13 @@ use Rattle.schema_models.specs.Names.{is_name}
 use Rattle.sql_text.specs.declared.part.Part.{Part}
 use Rattle.sql_text.specs.declared.table_def.TableDef.{TableDef}
 use Rattle.table_defs.specs.declared.def_error.DefError.{DefError}
+use Rattle.dl_values.specs.declared.result_set.ResultSet.{ResultSet}
+use Rattle.sql_text.specs.declared.query.Query.{Query}
+use Rattle.wide_defs.specs.declared.command.TxnKey.TheVariants as key
+use Rattle.wide_defs.specs.declared.show_what.ShowWhat.{ShowWhat}
+use Rattle.wide_defs.specs.declared.show_what.ShowWhat.TheVariants as show
+use Rattle.wide_defs.specs.Reports.{Report, Reports, report, shown_refusal}
+use Rattle.wide_defs.specs.Answer.{ShownOf, picked, show_refusals}
 use Rattle.wide_defs.specs.declared.event.Event.{Event}
 use Rattle.wide_defs.specs.declared.event.Event.TheVariants as event
 use Rattle.wide_defs.specs.declared.catalogue.Table.{Table}
@@ -40,7 +47,7 @@ use Rattle.wide_defs.specs.declared.command.AlterDef.{AlterDef}
 use Rattle.wide_defs.specs.declared.command.AlterDef.TheVariants as alter
 use Rattle.wide_defs.specs.Ids.{live_of}
 use Rattle.wide_defs.specs.Jobs.{TaskMark, TaskName, is_job_over, job_at, jobs_of, last_job_of, live_job, taken_of, tasks_of}
-use Rattle.wide_defs.specs.Indexes.{change_maps}
+use Rattle.wide_defs.specs.Indexes.{Index, change_maps, index_at}
 use Rattle.wide_defs.specs.Moves.{next_move, next_task}
 use Rattle.wide_defs.specs.Alters.{given_state, has_index_name, job_of_kind, job_state_of, may_give, most_rollups, refused_alter, roll_fault, rollup_refusals}
 use Rattle.wide_defs.specs.Answer.{AdvancedFor, CancelledFor, IsTask, TakenBy, TakenFor, TakenIn, TakenOf, add_alter_refusals, busy_by, busy_in, cancel_alter_refusals, give_refusals, lacks_job}
@@ -136,6 +143,17 @@ cancel_alter_any P x y z db table kind dbs tables jobs =
 give_any : (P : Reply → Type 0) → ((n : ℕ) → P (reply.Stale n)) → ((s : JobState) → P (reply.TaskOver s)) → (piece : Piece) (live : ℕ) (jobs : List JobInfo) (tasks : List TaskMark) → AllSome P (give_refusals piece live jobs tasks)
 give_any P x y piece live jobs tasks = (refuse_some P (not (nat_eq piece.born live)) (reply.Stale live) (λ _. x live), (refuse_some P (not (may_give piece jobs tasks)) (reply.TaskOver (job_state_of (job_at piece.job jobs))) (λ _. y (job_state_of (job_at piece.job jobs))), tt))
 
+show_any : (P : Reply → Type 0) → P reply.UnknownDb → P reply.UnknownTable → P reply.NoSuchTxn → (db : List ℕ) (what : ShowWhat) (dbs : List (List ℕ)) (tables : List Table) (txns : List Txn) → AllSome P (show_refusals db what dbs tables txns)
+show_any P x y z db what dbs tables txns = (refuse_some P (not (has_db db dbs)) reply.UnknownDb (λ _. x), (go what, tt))
+  where
+    go : (w : ShowWhat) → IfSome (shown_refusal db w tables txns) P
+    go show.Tables = tt
+    go (show.Partitions name) = refuse_some P (is_none (table_named db name tables)) reply.UnknownTable (λ _. y)
+    go (show.Indexes name) = refuse_some P (is_none (table_named db name tables)) reply.UnknownTable (λ _. y)
+    go (show.Jobs kind) = tt
+    go (show.ById id) = refuse_some P (is_none (txn_by db (key.Id id) txns)) reply.NoSuchTxn (λ _. z)
+    go (show.ByLabel label) = refuse_some P (is_none (txn_by db (key.Label label) txns)) reply.NoSuchTxn (λ _. z)
+
 refused_stays : (Es : List Event) (c : Command) → AllSome (Stays Es c) (refusals Es c)
 refused_stays Es (command.CreateDb name if_not_exists) =
     let c = command.CreateDb name if_not_exists in
@@ -162,6 +180,8 @@ refused_stays Es (command.AddAlter db table def at) = add_alter_any (Stays Es (c
 refused_stays Es (command.CancelAlter db table kind at) = cancel_alter_any (Stays Es (command.CancelAlter db table kind at)) (λ h. absurd (cc)) (λ h. absurd (cc)) (λ h. absurd (cc)) db table kind (databases_of Es) (tables_of Es) (jobs_of Es)
 refused_stays Es (command.Advance at) = (refuse_some (Stays Es (command.Advance at)) (is_none (next_move (jobs_of Es) (tables_of Es) (txns_of Es) (tasks_of Es))) reply.NothingToAdvance (λ _ h. absurd (cc)), tt)
 refused_stays Es command.Take = (refuse_some (Stays Es command.Take) (is_none (next_task (jobs_of Es) (tables_of Es) (tasks_of Es))) reply.NoTask (λ _ h. absurd (cc)), tt)
+refused_stays Es (command.Show db what) = show_any (Stays Es (command.Show db what)) (λ h. absurd (cc)) (λ h. absurd (cc)) (λ h. absurd (cc)) db what (databases_of Es) (tables_of Es) (txns_of Es)
+refused_stays Es command.Restart = tt
 refused_stays Es (command.Give piece at) = give_any (Stays Es (command.Give piece at)) (λ n h. absurd (cc)) (λ s h. absurd (cc)) piece (live_of Es) (jobs_of Es) (tasks_of Es)
 
 first_refused : (P : Reply → Type 0) (os : List (Option Reply)) (Q : Type 0) (r : Reply) → AllSome P os → MatchOption (first_of os) Q (λ x. r ≡ x) → (first_of os ≡ None) ⊎ P r
@@ -176,6 +196,10 @@ answered Es c ok r a w =
       | inr m ↦ elim (first_refused (Stays Es c) (refusals Es c) (ok r) r (refused_stays Es c) m) [ inl h ↦ inl h | inr h ↦ inr (h w) ]
     ]
 
+-- a refusal that holds is answered well only where nothing is to be done
+pub refused_well : (Es : List Event) (c : Command) (r : Reply) → first_of (refusals Es c) ≡ Some r → outcome r ≡ Well → acted Es c ≡ []
+refused_well Es c r is = elim (first_refused (Stays Es c) (refusals Es c) ⊥ r (refused_stays Es c) (subst (λ (o : Option Reply). MatchOption o ⊥ (λ x. r ≡ x)) (sym is) refl)) [ inl h ↦ absurd (cc (h, is)) | inr h ↦ h ]
+
 pub went_well : (Es : List Event) (c : Command) (r : Reply) → Answer Es c r → outcome r ≡ Well → (first_of (refusals Es c) ≡ None) ⊎ (acted Es c ≡ [])
 went_well Es (command.CreateDb name if_not_exists) r a w = answered Es (command.CreateDb name if_not_exists) (λ r. r ≡ reply.Done) r a w
 went_well Es (command.CreateTable db table def if_not_exists) r a w = answered Es (command.CreateTable db table def if_not_exists) (λ r. r ≡ reply.Done) r a w
@@ -183,7 +207,9 @@ went_well Es (command.Begin db table label two_phase at) r a w = answered Es (co
 went_well Es (command.Submit txn built at) r a w = answered Es (command.Submit txn built at) (λ r. r ≡ reply.Submitted (placed_for (txn_at txn (txns_of Es)) (txns_of Es) (places_of Es))) r a w
 went_well Es (command.Publish at) r a w = answered Es (command.Publish at) (PublishedFor (due (txns_of Es))) r a w
 went_well Es (command.Abort db txn at) r a w = answered Es (command.Abort db txn at) (AbortedFor (txn_by db txn (txns_of Es))) r a w
-went_well Es (command.Snapshot db table query) r a w = answered Es (command.Snapshot db table query) (ShownFor (table_named db table (tables_of Es)) (base_of Es) (λ t. cost_of (stored_of Es t 0))) r a w
+went_well Es (command.Snapshot db table query) r a w = answered Es (command.Snapshot db table query) (ShownFor (table_named db table (tables_of Es)) query (base_of Es) (λ t index. cost_of (stored_of Es t index))) r a w
+went_well Es (command.Show db what) r a w = answered Es (command.Show db what) (Reports (report Es db what)) r a w
+went_well Es command.Restart r a w = answered Es command.Restart (λ r. r ≡ reply.Done) r a w
 went_well Es (command.DropTable db table if_exists at) r a w = answered Es (command.DropTable db table if_exists at) (λ r. r ≡ reply.Done) r a w
 went_well Es (command.AddPartition db table part) r a w = answered Es (command.AddPartition db table part) (λ r. r ≡ reply.Done) r a w
 went_well Es (command.Commit db txn at) r a w = answered Es (command.Commit db txn at) (CommittedFor (txn_by db txn (txns_of Es)) (txns_of Es) (places_of Es)) r a w
@@ -257,14 +283,23 @@ no_abort : (o : Option Txn) (r : Reply) → AbortedFor o r → is_begun r ≡ fa
 no_abort None r h = absurd h
 no_abort (Some t) r h = ap is_begun h
 
-shows_not_begun : (t : Table) (base : List (List Cell)) (cost : ℕ) (r : Reply) → Shows t base cost r → is_begun r ≡ false
-shows_not_begun t base cost (reply.Snap s) h = refl
-shows_not_begun t base cost (reply.Begun txn plan) h = absurd h
-shows_not_begun t base cost _ h = refl
+shows_not_begun : (t : Table) (x : Index) (base : List (List Cell)) (cost : ℕ) (r : Reply) → Shows t x base cost r → is_begun r ≡ false
+shows_not_begun t x base cost (reply.Snap s) h = refl
+shows_not_begun t x base cost (reply.Begun txn plan) h = absurd h
+shows_not_begun t x base cost _ h = refl
 
-no_show : (o : Option Table) (base : ℕ → List (List Cell)) (cost : ℕ → ℕ) (r : Reply) → ShownFor o base cost r → is_begun r ≡ false
-no_show None base cost r h = absurd h
-no_show (Some t) base cost r h = shows_not_begun t (base t.number) (cost t.number) r h
+no_show : (o : Option Table) (query : Query) (base : ℕ → List (List Cell)) (cost : ℕ → ℕ → ℕ) (r : Reply) → ShownFor o query base cost r → is_begun r ≡ false
+no_show None query base cost r h = absurd h
+no_show (Some t) query base cost r h = go (index_at (picked t query) t) h
+  where
+    go : (x : Option Index) → ShownOf t x (base t.number) (cost t.number (picked t query)) r → is_begun r ≡ false
+    go None k = absurd k
+    go (Some x) k = shows_not_begun t x (base t.number) (cost t.number (picked t query)) r k
+
+no_report : (x : Report) (r : Reply) → Reports x r → is_begun r ≡ false
+no_report x (reply.Shown set) h = refl
+no_report x (reply.Begun txn plan) h = absurd h
+no_report x _ h = refl
 
 commit_not_begun : (at : ℕ) (known : Bool) (o : Option Txn) → AllSome NotBegun (commit_refusals at known o)
 commit_not_begun at known None = (refuse_some NotBegun (not known) reply.UnknownDb (λ _. refl), (refl, tt))
@@ -325,7 +360,7 @@ begins_by Es (command.Publish at) r a b =
 begins_by Es (command.Abort db txn at) r a b =
     absurd (let h = all_not_begun (refusals Es (command.Abort db txn at)) (abort_not_begun (has_db db (databases_of Es)) (txn_by db txn (txns_of Es))) (AbortedFor (txn_by db txn (txns_of Es))) r a b in let z = no_abort (txn_by db txn (txns_of Es)) r h in cc (z, b))
 begins_by Es (command.Snapshot db table query) r a b =
-    absurd (let h = all_not_begun (refusals Es (command.Snapshot db table query)) (refuse_some NotBegun (not (has_db db (databases_of Es))) reply.UnknownDb (λ _. refl), (refuse_some NotBegun (is_none (table_named db table (tables_of Es))) reply.UnknownTable (λ _. refl), tt)) (ShownFor (table_named db table (tables_of Es)) (base_of Es) (λ t. cost_of (stored_of Es t 0))) r a b in let z = no_show (table_named db table (tables_of Es)) (base_of Es) (λ t. cost_of (stored_of Es t 0)) r h in cc (z, b))
+    absurd (let h = all_not_begun (refusals Es (command.Snapshot db table query)) (refuse_some NotBegun (not (has_db db (databases_of Es))) reply.UnknownDb (λ _. refl), (refuse_some NotBegun (is_none (table_named db table (tables_of Es))) reply.UnknownTable (λ _. refl), tt)) (ShownFor (table_named db table (tables_of Es)) query (base_of Es) (λ t index. cost_of (stored_of Es t index))) r a b in let z = no_show (table_named db table (tables_of Es)) query (base_of Es) (λ t index. cost_of (stored_of Es t index)) r h in cc (z, b))
 begins_by Es (command.DropTable db table if_exists at) r a b =
     absurd (let h = all_not_begun (refusals Es (command.DropTable db table if_exists at)) (refuse_some NotBegun (not (has_db db (databases_of Es))) reply.UnknownDb (λ _. refl), (refuse_some NotBegun (is_none (table_named db table (tables_of Es))) (cond if_exists reply.Done reply.UnknownTable) (λ _. exists_not_begun if_exists reply.UnknownTable refl), tt)) (λ r. r ≡ reply.Done) r a b in let z : is_begun r ≡ false = ap is_begun h in cc (z, b))
 begins_by Es (command.AddPartition db table part) r a b =
@@ -342,5 +377,8 @@ begins_by Es (command.Advance at) r a b =
     absurd (let h = all_not_begun (refusals Es (command.Advance at)) (refuse_some NotBegun (is_none (next_move (jobs_of Es) (tables_of Es) (txns_of Es) (tasks_of Es))) reply.NothingToAdvance (λ _. refl), tt) (AdvancedFor (next_move (jobs_of Es) (tables_of Es) (txns_of Es) (tasks_of Es)) (tables_of Es) (txns_of Es)) r a b in let z = no_advance (next_move (jobs_of Es) (tables_of Es) (txns_of Es) (tasks_of Es)) (tables_of Es) (txns_of Es) r h in cc (z, b))
 begins_by Es command.Take r a b =
     absurd (let h = all_not_begun (refusals Es command.Take) (refuse_some NotBegun (is_none (next_task (jobs_of Es) (tables_of Es) (tasks_of Es))) reply.NoTask (λ _. refl), tt) (TakenFor (next_task (jobs_of Es) (tables_of Es) (tasks_of Es)) (taken_of Es) (live_of Es) (jobs_of Es) (tables_of Es) (source_of Es)) r a b in let z = no_take (next_task (jobs_of Es) (tables_of Es) (tasks_of Es)) (taken_of Es) (live_of Es) (jobs_of Es) (tables_of Es) (source_of Es) r h in cc (z, b))
+begins_by Es (command.Show db what) r a b =
+    absurd (let h = all_not_begun (refusals Es (command.Show db what)) (show_any NotBegun refl refl refl db what (databases_of Es) (tables_of Es) (txns_of Es)) (Reports (report Es db what)) r a b in let z = no_report (report Es db what) r h in cc (z, b))
+begins_by Es command.Restart r a b = absurd (let h = all_not_begun [] tt (λ r. r ≡ reply.Done) r a b in let z : is_begun r ≡ false = ap is_begun h in cc (z, b))
 begins_by Es (command.Give piece at) r a b =
     absurd (let h = all_not_begun (refusals Es (command.Give piece at)) (give_any NotBegun (λ n. refl) (λ s. refl) piece (live_of Es) (jobs_of Es) (tasks_of Es)) (λ r. r ≡ reply.Given piece.job (given_state piece.result)) r a b in let z : is_begun r ≡ false = ap is_begun h in cc (z, b))

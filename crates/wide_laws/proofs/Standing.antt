@@ -10,7 +10,8 @@ use Rattle.wide_defs.specs.Catalogue.{tables_of}
 use Rattle.wide_defs.specs.History.{happened}
 use Rattle.wide_defs.specs.Journal.{Agrees, journal_of, story}
 use Rattle.wide_defs.specs.Legal.{Legal}
-use Rattle.wide_defs.specs.Stands.{View, HasGrid, StandsOpen}
+use Rattle.wide_defs.specs.Reports.{job_name_of}
+use Rattle.wide_defs.specs.Stands.{View, HasGrid, StandsOpen, named_in}
 use Rattle.wide_defs.specs.Stored.{waiting_by}
 use Rattle.wide_defs.specs.Transactions.{txn_at, txns_of}
 use Rattle.std.proofs.Common.{Bool, true, false, cond, ◌&&◌, [], Option, Some, None, IfSome, map, refl}
@@ -18,6 +19,7 @@ use Rattle.std.specs.Prelude.{nat_eq}
 use Rattle.row_map.specs.Maps.{AdmittedRollupsJoin}
 use Rattle.alter_core.specs.declared.job.JobInfo.{JobInfo}
 use Rattle.wide_defs.specs.Jobs.{is_running, jobs_of, reopened_job, running_job}
+use Rattle.wide_laws.proofs.Lists.{each_imp}
 use Rattle.wide_laws.proofs.Openings.{never_runs}
 use Rattle.wide_laws.proofs.Stories.{reopens}
 
@@ -38,7 +40,9 @@ none_reopened table (j ∷ js) = go (nat_eq j.table table) (is_running (reopened
 
 alike : (v : View) (Es Gs : List Event) → Agrees Es Gs → ((table : ℕ) → running_job table (jobs_of Es) ≡ None) → StandsOpen v Gs → StandsOpen v Es
 alike v Es Gs a none s = record {
-  alters = record { jobs = s.alters.jobs ∙ sym a.jobs; last_job = s.alters.last_job ∙ sym a.last_job; tasks = s.alters.tasks ∙ sym a.tasks };
+  alters = record {
+    names = subst (λ (js : List JobInfo). AllByRecursion (λ (j : JobInfo). named_in j.job v.job_names ≡ job_name_of Es j.job) js) (sym a.jobs) (each_imp (λ (j : JobInfo). named_in j.job v.job_names ≡ job_name_of Gs j.job) (λ (j : JobInfo). named_in j.job v.job_names ≡ job_name_of Es j.job) (λ j k. k ∙ sym (a.named j.job)) (jobs_of Gs) s.alters.names);
+    jobs = s.alters.jobs ∙ sym a.jobs; last_job = s.alters.last_job ∙ sym a.last_job; tasks = s.alters.tasks ∙ sym a.tasks };
   shadows = record { shadows = λ table index w. none_if (running_job table (jobs_of Es)) _ (none table) };
   cat = record { databases = s.cat.databases ∙ sym a.databases; tables = s.cat.tables ∙ sym a.tables; last_table = s.cat.last_table ∙ sym a.last_table };
   txns = record { txns = s.txns.txns ∙ sym a.txns; range = s.txns.range ∙ sym a.range; next = s.txns.next ∙ sym a.next; places = s.txns.places ∙ sym a.places };

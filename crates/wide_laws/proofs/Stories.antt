@@ -9,6 +9,7 @@ use Rattle.row_map.proofs.Rollups.{rollup_converts}
 use Rattle.alter_core.specs.declared.job.Change.{Change}
 use Rattle.alter_core.specs.declared.job.Change.TheVariants as change
 use Rattle.alter_core.specs.declared.job.JobInfo.{JobInfo}
+use Rattle.wide_laws.proofs.Journals.{journal_cons}
 use Rattle.wide_defs.specs.declared.event.Event.{Event}
 use Rattle.wide_defs.specs.declared.event.Event.TheVariants as event
 use Rattle.wide_defs.specs.declared.history.Entry.{Entry}
@@ -81,7 +82,7 @@ pub record Told (Es : List Event) : Type 0 where
   pub story : IsStory (journal Es)
 
 pub always_told : AdmittedRollupsJoin → (H : List Entry) → Legal H → Told (happened H)
-always_told law H l = always_holds Told (record { spread = spread_first law; story = tt }) (λ e Es g h p. record { spread = spread_step e Es g h p.spread; story = story_on e Es (is_told e) refl g p.spread h p.story }) H l
+always_told law H l = always_holds Told (record { spread = spread_first law; story = tt }) (λ e Es g h p. record { spread = spread_step e Es g h p.spread; story = subst IsStory (sym (journal_cons e Es)) (story_on e Es (is_told e) refl g p.spread h p.story) }) H l
 
 -- The story of a journal exists, and agrees with the history and an opening.
 pub reopens : AdmittedRollupsJoin → (H : List Entry) → Legal H → IsStory (journal_of H) × Agrees (event.Opened ∷ happened H) (happened (story (journal_of H)))
