@@ -22,6 +22,7 @@ use Rattle.wide_defs.specs.May.{May, IsBuilt}
 use Rattle.wide_defs.specs.Legal.{Legal, IsLegal}
 use Rattle.wide_defs.specs.Script.{Served}
 use Rattle.wide_laws.specs.Laws.{joined}
+use Rattle.wide_laws.specs.Parted.{restarted}
 use Rattle.wide_laws.specs.Examples.{plain, plan, made, begun, submitted, loaded, both_begun, later_first, both_submitted, one_published, both_published, faulted, def, d, t, ShowsRows, publish_one, IsOnePublish}
 
 plain_legal : (c : Command) (r : Reply) (H : List Entry) → restarts c ≡ false → Answer (happened H) c r → May H c → (r ≡ reply.KeeperFault → ⊥) → broken_of H ≡ false → IfSome (last_faults H) (λ n. 0 ≡ n) → IsLegal (plain c r) H
@@ -66,6 +67,26 @@ faulted_legal built is = (
       opens_only = λ e. absurd (cc);
       opens = λ e. absurd (cc);
       restarted = λ e k. absurd (cc);
+      later = omega arith;
+      counts = refl;
+    };
+  },
+  begun_legal,
+)
+
+-- an opening that was asked for
+pub restarted_legal : Legal restarted
+restarted_legal = (
+  record {
+    answer = inl (inr refl);
+    may = tt;
+    marks = record {
+      rose = refl;
+      fault = λ e. absurd (cc);
+      took = λ e. absurd (cc);
+      opens_only = λ e. inr refl;
+      opens = λ e. absurd (cc);
+      restarted = λ e k. refl;
       later = omega arith;
       counts = refl;
     };
