@@ -1,5 +1,5 @@
 -- What a history made happen: a list of events, the newest first.
-use Rattle.std.specs.Prelude.{ℕ, ◌+◌, Bool, true, false, cond, ◌||◌, List, [], ◌∷◌, ◌++◌, Option, Some, None, filter, is_some, nat_lt}
+use Rattle.std.specs.Prelude.{ℕ, ◌+◌, Bool, true, false, cond, ◌||◌, List, [], ◌∷◌, ◌++◌, Option, Some, None, is_some, nat_lt}
 use Rattle.dl_values.specs.declared.cell.Cell.{Cell}
 use Rattle.wide_defs.specs.declared.event.Event.{Event}
 use Rattle.wide_defs.specs.declared.event.Event.TheVariants as event

@@ -29,7 +29,7 @@ use Rattle.wide_defs.specs.declared.reply.Reply.{Reply}
 use Rattle.wide_defs.specs.declared.reply.Reply.TheVariants as reply
 use Rattle.wide_defs.specs.Names.{same}
 use Rattle.wide_defs.specs.Words.{cause_text, extra_text, job_state_text, state_text, true_text, type_text, yes_text}
-use Rattle.wide_defs.specs.Catalogue.{has_db, table_at, table_named, tables_of}
+use Rattle.wide_defs.specs.Catalogue.{table_at, table_named, tables_of}
 use Rattle.wide_defs.specs.Jobs.{jobs_of, kind_of, same_kind}
 use Rattle.wide_defs.specs.Stored.{committed_of, version_of}
 use Rattle.wide_defs.specs.Transactions.{txn_by, txns_of}

@@ -1,5 +1,5 @@
 -- What a turn leaves: the seen list grew by entries of others and then this call, and the own list by this call. Where the command is quiet after what was seen then, the turn visited no stored row.
-use Rattle.std.specs.Prelude.{◌≡◌, ℕ, Bool, false, List, ◌∷◌, ◌++◌}
+use Rattle.std.specs.Prelude.{◌≡◌, ℕ, false, List, ◌∷◌, ◌++◌}
 use Rattle.wide_defs.specs.declared.command.Command.{Command}
 use Rattle.wide_defs.specs.declared.reply.Reply.{Reply}
 use Rattle.wide_defs.specs.declared.history.Call.{Call}

@@ -4,10 +4,10 @@ use alter_core::JobState;
 use dl_values::ResultSet;
 use history_convert::Task;
 use labels::TxnState;
+use load_targets::Plan;
 use merge_read::Snapshot;
 use partitions::LayoutError;
 use rowsets::Rowset;
-use load_targets::Plan;
 use std::sync::Arc;
 use table_defs::DefError;
 

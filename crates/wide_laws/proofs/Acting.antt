@@ -4,7 +4,7 @@ use Rattle.std.proofs.lemmas.Bool.Decides.{nat_tests}
 use Rattle.std.proofs.lemmas.Grind.{reverse_onto}
 use Rattle.std.proofs.lemmas.Slice.Eq.{bytes_eq-Decides}
 use Rattle.std.specs.Prelude.{nat_eq, nat_lt, nat_le, length}
-use Rattle.std.specs.List.{list_all, list_any}
+use Rattle.std.specs.List.{list_any}
 use Rattle.std.specs.Option.{option_map, option_or}
 use Rattle.dl_values.specs.declared.cell.Cell.{Cell}
 use Rattle.labels.specs.declared.txn_state.TxnState.{TxnState}
@@ -36,14 +36,6 @@ use Rattle.wide_defs.specs.Stored.{AreRowsOf}
 use Rattle.table_defs.specs.Columns.{shape_of}
 use Rattle.table_defs.specs.Defined.{columns_fault, def_fault, key_fault, layout_faults, layout_of}
 use Rattle.table_defs.specs.Parts.{buckets_of, part_of, parts_of}
-use Rattle.schema_models.specs.ShapeView.{ShapeView}
-use Rattle.schema_models.specs.declared.model.Model.{Model}
-use Rattle.schema_models.specs.declared.model.Model.TheVariants as model
-use Rattle.std.specs.Str.{bytes_eq}
-use Rattle.std.proofs.Common.{length-append, append-nil, append_assoc}
-use Rattle.dl_values.specs.declared.col_type.ColType.{ColType}
-use Rattle.partitions.specs.LayoutView.{LayoutView, whole}
-use Rattle.partitions.specs.declared.part_def.PartDef.{PartDef}
 use Rattle.partitions.specs.LayoutFaults.{add_fault, layout_fault}
 use Rattle.partitions.specs.LayoutRules.{IsLayout}
 use Rattle.partitions.specs.Ranges.{with_range}

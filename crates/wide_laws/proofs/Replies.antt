@@ -12,7 +12,6 @@ use Rattle.schema_models.specs.Names.{is_name}
 use Rattle.sql_text.specs.declared.part.Part.{Part}
 use Rattle.sql_text.specs.declared.table_def.TableDef.{TableDef}
 use Rattle.table_defs.specs.declared.def_error.DefError.{DefError}
-use Rattle.dl_values.specs.declared.result_set.ResultSet.{ResultSet}
 use Rattle.sql_text.specs.declared.query.Query.{Query}
 use Rattle.wide_defs.specs.declared.command.TxnKey.TheVariants as key
 use Rattle.wide_defs.specs.declared.show_what.ShowWhat.{ShowWhat}

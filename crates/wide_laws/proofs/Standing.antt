@@ -42,7 +42,10 @@ alike : (v : View) (Es Gs : List Event) → Agrees Es Gs → ((table : ℕ) → 
 alike v Es Gs a none s = record {
   alters = record {
     names = subst (λ (js : List JobInfo). AllByRecursion (λ (j : JobInfo). named_in j.job v.job_names ≡ job_name_of Es j.job) js) (sym a.jobs) (each_imp (λ (j : JobInfo). named_in j.job v.job_names ≡ job_name_of Gs j.job) (λ (j : JobInfo). named_in j.job v.job_names ≡ job_name_of Es j.job) (λ j k. k ∙ sym (a.named j.job)) (jobs_of Gs) s.alters.names);
-    jobs = s.alters.jobs ∙ sym a.jobs; last_job = s.alters.last_job ∙ sym a.last_job; tasks = s.alters.tasks ∙ sym a.tasks };
+    jobs = s.alters.jobs ∙ sym a.jobs;
+    last_job = s.alters.last_job ∙ sym a.last_job;
+    tasks = s.alters.tasks ∙ sym a.tasks;
+  };
   shadows = record { shadows = λ table index w. none_if (running_job table (jobs_of Es)) _ (none table) };
   cat = record { databases = s.cat.databases ∙ sym a.databases; tables = s.cat.tables ∙ sym a.tables; last_table = s.cat.last_table ∙ sym a.last_table };
   txns = record { txns = s.txns.txns ∙ sym a.txns; range = s.txns.range ∙ sym a.range; next = s.txns.next ∙ sym a.next; places = s.txns.places ∙ sym a.places };

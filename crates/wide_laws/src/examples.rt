@@ -195,6 +195,7 @@ pub fn a_table_is_dropped()
     ensures once { OneAnswer (gone made) (drop_t 5) reply.UnknownTable }
     ensures quietly { OneAnswer (gone made) (command.DropTable d t true 5) reply.Done }
     ensures open { (built : Built) → OneAnswer (gone begun) (command.Submit 1 built 5) (reply.WrongState state.Aborted) }
+    ensures precommitted { (built : Built) → OneAnswer (gone (precommitted built)) (commit_b 6) (reply.WrongState state.Aborted) }
     ensures waits { (built : Built) → OneAnswer (gone (submitted built)) (command.Publish 6) (reply.Published 1 1) }
     ensures rows { (built : Built) → base_of (happened (shown_gone built)) 1 ≡ [] }
     ensures version { (built : Built) → version_of (happened (shown_gone built)) 1 0 ≡ 1 }
@@ -209,6 +210,8 @@ pub fn a_sweep_cleans_what_ended()
     ensures late { (built : Built) → OneAnswer (loaded built) (command.Sweep 259200) (reply.Swept 0 1) }
     ensures taken { OneAnswer begun (command.Sweep 599) reply.NothingToSweep }
     ensures expired { OneAnswer begun (command.Sweep 600) (reply.Swept 1 0) }
+    ensures submitted { (built : Built) → OneAnswer (precommitted built) (command.Sweep 3599) reply.NothingToSweep }
+    ensures aborted { (built : Built) → OneAnswer (precommitted built) (command.Sweep 3600) (reply.Swept 1 0) }
 {}
 
 /// A rollup is added after a load. A second one is refused while the first one's job lives, and so is a partition. The job

@@ -1,4 +1,4 @@
-use Rattle.std.proofs.Common.{refl, inr, ap, ◌∙◌}
+use Rattle.std.proofs.Common.{refl, inr, ap}
 use Rattle.wide_defs.specs.History.{restarts}
 use Rattle.wide_laws.proofs.Worked.{restarted_legal}
 use Rattle.wide_laws.proofs.parted.a_restart_opens_the_service.Goals as goal
