@@ -24,9 +24,12 @@ use Rattle.wide_laws.specs.Tidy.{Each, Happens}
 use Rattle.wide_laws.specs.Laws.{CountsIn, CountsLoads, visible_of, visible_with}
 use Rattle.wide_laws.proofs.Lists.{each_found, each_imp, each_snoc}
 use Rattle.wide_laws.proofs.Sets.{lies_stay}
-use Rattle.wide_laws.proofs.Stored.{IsHeld, IsHeldBy, Spread, inside_more, same_number, spread_first, spread_step}
-use Rattle.wide_laws.proofs.Tidying.{due_found, finished_any, finished_number, found_map, found_without, part_number}
-use Rattle.wide_laws.proofs.Histories.{Good, always_holds}
+use Rattle.wide_laws.proofs.Stored.{Spread, spread_first, spread_step}
+use Rattle.wide_laws.proofs.Loading.{IsHeld, IsHeldBy, inside_more, same_number}
+use Rattle.wide_laws.proofs.Tidying.{due_found, finished_any, finished_number}
+use Rattle.wide_laws.proofs.Keeping.{found_map, found_without, part_number}
+use Rattle.wide_laws.proofs.Histories.{always_holds}
+use Rattle.wide_laws.proofs.Plans.{Good}
 
 abbrev Rows : Type 0
 Rows = List (List Cell)

@@ -34,8 +34,9 @@ use Rattle.wide_defs.specs.Stored.{base_of}
 use Rattle.wide_defs.specs.Journal.{There, FollowsCommit, FollowsFinish, FollowsJob, FollowsLoad, FollowsWaiting, Follows, HasNoBad, IsLiveJob, hinders, is_load_label, Agrees}
 use Rattle.wide_laws.specs.Tidy.{Alters, EndsNow, Pairs, Each, Tells, Tidy, LabelFits, label_key, Happens, Fits}
 use Rattle.wide_laws.proofs.Lists.{each_filter, each_found, each_imp, always, each_both, each_passed, alone}
-use Rattle.wide_laws.proofs.Openings as opening
-use Rattle.wide_laws.proofs.Tidying.{found_told, told_precommitted, told_committed, due_is, due_found, and_left}
+use Rattle.wide_laws.proofs.Commuting as opening
+use Rattle.wide_laws.proofs.Tidying.{due_is, due_found, and_left}
+use Rattle.wide_laws.proofs.Keeping.{found_told, told_precommitted, told_committed}
 
 pub some_is : {X : Type 0} (o : Option X) (w : X) (P : X → Type 0) → o ≡ Some w → P w → IfSome o P
 some_is None w P e h = absurd (cc)

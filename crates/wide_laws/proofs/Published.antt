@@ -16,9 +16,11 @@ use Rattle.wide_defs.specs.History.{happened}
 use Rattle.wide_defs.specs.Legal.{Legal}
 use Rattle.wide_laws.specs.Tidy.{Each, Tells, Happens, published_of, Distinct}
 use Rattle.wide_laws.proofs.Lists.{each_imp, each_both, each_filter, each_map, each_snoc, each_found, each_put, each_at, eq_is}
-use Rattle.wide_laws.proofs.Tidying.{due_is, due_found, found_told, told_committed, none_told}
+use Rattle.wide_laws.proofs.Tidying.{due_is, due_found}
+use Rattle.wide_laws.proofs.Keeping.{found_told, told_committed, none_told}
 use Rattle.wide_laws.proofs.Following.{any_none, none_any}
-use Rattle.wide_laws.proofs.Histories.{Good, always_holds}
+use Rattle.wide_laws.proofs.Histories.{always_holds}
+use Rattle.wide_laws.proofs.Plans.{Good}
 
 pub record Once (Es : List Event) : Type 0 where
   pub seen : Each (λ t. is_visible t.state ≡ list_any (nat_eq t.id) (published_of Es)) (txns_of Es)

@@ -33,11 +33,16 @@ use Rattle.wide_defs.specs.Journal.{There}
 use Rattle.wide_laws.specs.Tidy.{Each, Happens, LiveApart, Pairs}
 use Rattle.wide_laws.specs.Laws.{ChainsBy, IndexFoldsTo, IsBase, PartsFold, RunsWell, TabletFolds, TabletFoldsTo}
 use Rattle.wide_laws.proofs.Lists.{each_both, each_filter, each_found, each_imp, each_map, each_snoc, eq_is}
-use Rattle.wide_laws.proofs.Tidying.{due_found, finished_number, found_map, found_without, made_apart, part_number, table_number}
+use Rattle.wide_laws.proofs.Tidying.{due_found, finished_number}
+use Rattle.wide_laws.proofs.Keeping.{found_map, found_without, made_apart, part_number, table_number}
 use Rattle.wide_laws.proofs.Following.{any_none, each_job}
-use Rattle.wide_laws.proofs.Openings.{never_runs}
-use Rattle.wide_laws.proofs.Histories.{Good, always_holds, kept}
-use Rattle.wide_laws.proofs.Stored.{ChangeAdmits, Holds, IsHeld, IsHeldBy, IsIndex, IsSturdy, JobHolds, Spread, TableHolds, all_fold, compact_chain, compact_holds, dropped_chain, dropped_table, each_in, finished_chain, finished_holds, load_chain, load_tablet, live_ends, made_chain, made_holds, part_chain, part_table, published, spread_first, spread_step, sturdy, whole_folds}
+use Rattle.wide_laws.proofs.Commuting.{never_runs}
+use Rattle.wide_laws.proofs.Histories.{always_holds, kept}
+use Rattle.wide_laws.proofs.Plans.{Good}
+use Rattle.wide_laws.proofs.Stored.{Spread, live_ends, spread_first, spread_step, sturdy}
+use Rattle.wide_laws.proofs.Ending.{ChangeAdmits, JobHolds, finished_chain, finished_holds, whole_folds}
+use Rattle.wide_laws.proofs.Folding.{Holds, IsIndex, all_fold, load_tablet}
+use Rattle.wide_laws.proofs.Loading.{IsHeld, IsHeldBy, IsSturdy, TableHolds, compact_chain, compact_holds, dropped_chain, dropped_table, each_in, load_chain, made_chain, made_holds, part_chain, part_table, published}
 use Rattle.wide_laws.proofs.Stories.{held_table}
 
 -- what holds of the parts of a table, for a change

@@ -15,7 +15,7 @@ use Rattle.partitions.specs.Places.{AreInside, Place, buckets_at, is_in, lies_in
 use Rattle.partitions.proofs.Places.{place_stays, place_within}
 use Rattle.wide_defs.specs.Indexes.{Index}
 use Rattle.wide_defs.specs.Stored.{indexed, PlacedRows, same_place, set_at, set_for, sets_of}
-use Rattle.wide_laws.proofs.Stored.{rows_stay}
+use Rattle.wide_laws.proofs.Loading.{rows_stay}
 
 -- ---- the tablets of a layout, by their places
 and_false : (a : Bool) → (a && false) ≡ false

@@ -20,7 +20,7 @@ use Rattle.row_map.specs.Maps.{AdmittedRollupsJoin}
 use Rattle.alter_core.specs.declared.job.JobInfo.{JobInfo}
 use Rattle.wide_defs.specs.Jobs.{is_running, jobs_of, reopened_job, running_job}
 use Rattle.wide_laws.proofs.Lists.{each_imp}
-use Rattle.wide_laws.proofs.Openings.{never_runs}
+use Rattle.wide_laws.proofs.Commuting.{never_runs}
 use Rattle.wide_laws.proofs.Stories.{reopens}
 
 waits : (txn index : ℕ) (old new : List Txn) (before now : List Table) → old ≡ new → before ≡ now → (js ks : List JobInfo) → js ≡ ks → waiting_by (txn_at txn old) index before js ≡ waiting_by (txn_at txn new) index now ks

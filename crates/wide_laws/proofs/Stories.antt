@@ -26,11 +26,15 @@ use Rattle.wide_defs.specs.Legal.{Legal}
 use Rattle.partitions.specs.Places.{Place}
 use Rattle.wide_laws.specs.Tidy.{Each, Happens}
 use Rattle.wide_laws.proofs.Lists.{each_found, each_imp, eq_is}
-use Rattle.wide_laws.proofs.Tidying.{table_number}
+use Rattle.wide_laws.proofs.Keeping.{table_number}
 use Rattle.wide_laws.proofs.Following.{Ends, follows_on, follows_same, match_is, none_any}
 use Rattle.wide_laws.proofs.Openings.{agreement}
-use Rattle.wide_laws.proofs.Histories.{Good, always_holds, kept, kept_of, story_happened}
-use Rattle.wide_laws.proofs.Stored.{ChangeAdmits, Holds, IsHeld, IsHeldBy, JobHolds, Spread, TableHolds, live_ends, spread_first, spread_step}
+use Rattle.wide_laws.proofs.Histories.{always_holds, kept, kept_of, story_happened}
+use Rattle.wide_laws.proofs.Plans.{Good}
+use Rattle.wide_laws.proofs.Stored.{Spread, live_ends, spread_first, spread_step}
+use Rattle.wide_laws.proofs.Ending.{ChangeAdmits, JobHolds}
+use Rattle.wide_laws.proofs.Folding.{Holds}
+use Rattle.wide_laws.proofs.Loading.{IsHeld, IsHeldBy, TableHolds}
 
 good_rows : (m : RowMap) (rows : List (List Cell)) → Converts m rows → is_bad m rows ≡ false
 good_rows m [] c = refl
