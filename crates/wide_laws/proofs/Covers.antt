@@ -33,7 +33,7 @@ use Rattle.wide_defs.specs.Legal.{Legal}
 use Rattle.wide_defs.specs.May.{HasCause, May, PlannedBy}
 use Rattle.wide_laws.proofs.Following.{some_is}
 use Rattle.wide_laws.proofs.Submitting.{begun_now, key_found, ranged_jobs, ranged_tables, ranged_txns}
-use Rattle.wide_laws.proofs.Replies.{BeginsBy, begins_by, is_begun}
+use Rattle.wide_laws.proofs.Replies.{BeginsBy, begins_by, is_rare}
 use Rattle.wide_laws.proofs.Histories.{kept}
 use Rattle.wide_laws.proofs.Plans.{Good, good_on, no_cause, opened_good, planned_is, went}
 use Rattle.wide_laws.proofs.Owing.{Covers, cover_on}
@@ -151,7 +151,7 @@ new_covers c H txn built g (inr f) p = absurd (let k = planned_is txn built c.re
 new_covers c H txn built g (inl a) p =
     let k = planned_is txn built c.reply p in
     let Es = opening c.opened (happened H) in
-    let b : is_begun c.reply ≡ true = ap is_begun k.1 in
+    let b : is_rare c.reply ≡ true = ap is_rare k.1 in
     subst (λ (q : Plan). Covers (happened (Made c ∷ H)) txn (target_maps q.targets)) (sym k.2.plan_is) (begin_covers Es c.command c.reply c.took txn k.0 (opened_good c.opened (happened H) g) (begins_by Es c.command c.reply a b) k.1)
 
 opened_covers : (opened : Bool) (Es : List Event) (id : ℕ) (maps : List RowMap) → Good Es → id ≤ last_begun Es → Covers Es id maps → Covers (opening opened Es) id maps

@@ -43,7 +43,7 @@ use Rattle.wide_laws.proofs.Jobs.{alters_on}
 use Rattle.wide_laws.proofs.Following.{some_is, fits_on}
 use Rattle.wide_laws.proofs.Acting.{acted_happens, told_happens}
 use Rattle.wide_laws.proofs.Submitting.{Shaped, ranged_txns, ranged_tables, key_found, begun_now}
-use Rattle.wide_laws.proofs.Replies.{went_well, is_begun, BeginsBy, begins_by}
+use Rattle.wide_laws.proofs.Replies.{went_well, is_rare, BeginsBy, begins_by}
 
 pub record Good (Es : List Event) : Type 0 where
   pub tidy : Tidy Es
@@ -282,7 +282,7 @@ new_plan c H txn built g (inr f) p = absurd (let k = planned_is txn built c.repl
 new_plan c H txn built g (inl a) p =
     let k = planned_is txn built c.reply p in
     let Es = opening c.opened (happened H) in
-    let b : is_begun c.reply ≡ true = ap is_begun k.1 in
+    let b : is_rare c.reply ≡ true = ap is_rare k.1 in
     let holds = begin_holds Es c.command c.reply c.took txn k.0 (opened_good c.opened (happened H) g) (begins_by Es c.command c.reply a b) k.1 in
     (subst (λ (q : Plan). PlanHolds (happened (Made c ∷ H)) txn q.base q.layout) (sym k.2.plan_is) holds, built_rows k.0 built k.2)
 

@@ -219,27 +219,28 @@ went_well Es (command.Advance at) r a w = answered Es (command.Advance at) (Adva
 went_well Es command.Take r a w = answered Es command.Take (TakenFor (next_task (jobs_of Es) (tables_of Es) (tasks_of Es)) (taken_of Es) (live_of Es) (jobs_of Es) (tables_of Es) (source_of Es)) r a w
 went_well Es (command.Give piece at) r a w = answered Es (command.Give piece at) (λ r. r ≡ reply.Given piece.job (given_state piece.result)) r a w
 
--- A load begins by a Begin alone, which gives the next number and the plan of its table.
-abbrev pub is_begun : Reply → Bool
-is_begun (reply.Begun txn plan) = true
-is_begun _ = false
+-- The replies that few commands have: a load begins by a Begin alone, which gives the next number and the plan of its table, and that a record is damaged answers nothing.
+abbrev pub is_rare : Reply → Bool
+is_rare (reply.Begun txn plan) = true
+is_rare (reply.BadJournal seq) = true
+is_rare _ = false
 
 abbrev pub BeginsBy : List Event → Command → Reply → Type 0
 BeginsBy Es (command.Begin db table label two_phase at) r = (t : Table) × (table_named db table (tables_of Es) ≡ Some t) × (r ≡ reply.Begun (next_of Es) (plan_of (next_of Es) t (jobs_of Es)))
 BeginsBy Es _ r = ⊥
 
 abbrev NotBegun : Reply → Type 0
-NotBegun r = is_begun r ≡ false
+NotBegun r = is_rare r ≡ false
 
 first_or : (P : Reply → Type 0) (os : List (Option Reply)) (Q : Type 0) (r : Reply) → AllSome P os → MatchOption (first_of os) Q (λ x. r ≡ x) → Q ⊎ P r
 first_or P [] Q r all m = inl m
 first_or P (None ∷ os) Q r all m = first_or P os Q r all.1 m
 first_or P (Some x ∷ os) Q r all m = inr (subst P (sym m) all.0)
 
-all_not_begun : (os : List (Option Reply)) (all : AllSome NotBegun os) (ok : Reply → Type 0) (r : Reply) → Answers os ok r → is_begun r ≡ true → ok r
+all_not_begun : (os : List (Option Reply)) (all : AllSome NotBegun os) (ok : Reply → Type 0) (r : Reply) → Answers os ok r → is_rare r ≡ true → ok r
 all_not_begun os all ok r a b =
     elim a [
-      | inl e ↦ absurd (let z : is_begun r ≡ false = ap is_begun e in cc (z, b))
+      | inl e ↦ absurd (let z : is_rare r ≡ false = ap is_rare e in cc (z, b))
       | inr m ↦ elim (first_or NotBegun os (ok r) r all m) [ inl q ↦ q | inr n ↦ absurd (cc (n, b)) ]
     ]
 
@@ -258,7 +259,7 @@ used_not_begun : (o : Option Txn) → IfSome (used o) NotBegun
 used_not_begun None = tt
 used_not_begun (Some t) = refuse_some NotBegun (not (is_aborted t.state)) (reply.Used t.id t.state) (λ _. refl)
 
-exists_not_begun : (if_not_exists : Bool) (r : Reply) → is_begun r ≡ false → NotBegun (cond if_not_exists reply.Done r)
+exists_not_begun : (if_not_exists : Bool) (r : Reply) → is_rare r ≡ false → NotBegun (cond if_not_exists reply.Done r)
 exists_not_begun true r n = refl
 exists_not_begun false r n = n
 
@@ -274,30 +275,32 @@ begun_for : (next : ℕ) (o : Option Table) (jobs : List JobInfo) (r : Reply) �
 begun_for next None jobs r h = absurd h
 begun_for next (Some t) jobs r h = (t, refl, h)
 
-no_table : (o : Option Txn) (r : Reply) → PublishedFor o r → is_begun r ≡ false
+no_table : (o : Option Txn) (r : Reply) → PublishedFor o r → is_rare r ≡ false
 no_table None r h = absurd h
-no_table (Some t) r h = ap is_begun h
+no_table (Some t) r h = ap is_rare h
 
-no_abort : (o : Option Txn) (r : Reply) → AbortedFor o r → is_begun r ≡ false
+no_abort : (o : Option Txn) (r : Reply) → AbortedFor o r → is_rare r ≡ false
 no_abort None r h = absurd h
-no_abort (Some t) r h = ap is_begun h
+no_abort (Some t) r h = ap is_rare h
 
-shows_not_begun : (t : Table) (x : Index) (base : List (List Cell)) (cost : ℕ) (r : Reply) → Shows t x base cost r → is_begun r ≡ false
+shows_not_begun : (t : Table) (x : Index) (base : List (List Cell)) (cost : ℕ) (r : Reply) → Shows t x base cost r → is_rare r ≡ false
 shows_not_begun t x base cost (reply.Snap s) h = refl
 shows_not_begun t x base cost (reply.Begun txn plan) h = absurd h
+shows_not_begun t x base cost (reply.BadJournal seq) h = absurd h
 shows_not_begun t x base cost _ h = refl
 
-no_show : (o : Option Table) (query : Query) (base : ℕ → List (List Cell)) (cost : ℕ → ℕ → ℕ) (r : Reply) → ShownFor o query base cost r → is_begun r ≡ false
+no_show : (o : Option Table) (query : Query) (base : ℕ → List (List Cell)) (cost : ℕ → ℕ → ℕ) (r : Reply) → ShownFor o query base cost r → is_rare r ≡ false
 no_show None query base cost r h = absurd h
 no_show (Some t) query base cost r h = go (index_at (picked t query) t) h
   where
-    go : (x : Option Index) → ShownOf t x (base t.number) (cost t.number (picked t query)) r → is_begun r ≡ false
+    go : (x : Option Index) → ShownOf t x (base t.number) (cost t.number (picked t query)) r → is_rare r ≡ false
     go None k = absurd k
     go (Some x) k = shows_not_begun t x (base t.number) (cost t.number (picked t query)) r k
 
-no_report : (x : Report) (r : Reply) → Reports x r → is_begun r ≡ false
+no_report : (x : Report) (r : Reply) → Reports x r → is_rare r ≡ false
 no_report x (reply.Shown set) h = refl
 no_report x (reply.Begun txn plan) h = absurd h
+no_report x (reply.BadJournal seq) h = absurd h
 no_report x _ h = refl
 
 commit_not_begun : (at : ℕ) (known : Bool) (o : Option Txn) → AllSome NotBegun (commit_refusals at known o)
@@ -312,48 +315,49 @@ part_not_begun part (Some t) = go (add_fault t.layout (part_of t.layout.kind par
     go None = tt
     go (Some e) = refl
 
-no_commit : (o : Option Txn) (txns : List Txn) (last : ℕ) (r : Reply) → CommittedFor o txns last r → is_begun r ≡ false
+no_commit : (o : Option Txn) (txns : List Txn) (last : ℕ) (r : Reply) → CommittedFor o txns last r → is_rare r ≡ false
 no_commit None txns last r h = absurd h
-no_commit (Some t) txns last r h = ap is_begun h
+no_commit (Some t) txns last r h = ap is_rare h
 
-no_cancel_by : (o : Option JobInfo) (r : Reply) → MatchOption o ⊥ (λ (j : JobInfo). r ≡ reply.Cancelled j.job) → is_begun r ≡ false
+no_cancel_by : (o : Option JobInfo) (r : Reply) → MatchOption o ⊥ (λ (j : JobInfo). r ≡ reply.Cancelled j.job) → is_rare r ≡ false
 no_cancel_by None r h = absurd h
-no_cancel_by (Some j) r h = ap is_begun h
+no_cancel_by (Some j) r h = ap is_rare h
 
-no_cancel : (o : Option Table) (kind : JobKind) (jobs : List JobInfo) (r : Reply) → CancelledFor o kind jobs r → is_begun r ≡ false
+no_cancel : (o : Option Table) (kind : JobKind) (jobs : List JobInfo) (r : Reply) → CancelledFor o kind jobs r → is_rare r ≡ false
 no_cancel None kind jobs r h = absurd h
 no_cancel (Some t) kind jobs r h = no_cancel_by (job_of_kind t.number kind jobs) r h
 
-no_advance : (o : Option JobInfo) (tables : List Table) (txns : List Txn) (r : Reply) → AdvancedFor o tables txns r → is_begun r ≡ false
+no_advance : (o : Option JobInfo) (tables : List Table) (txns : List Txn) (r : Reply) → AdvancedFor o tables txns r → is_rare r ≡ false
 no_advance None tables txns r h = absurd h
-no_advance (Some j) tables txns r h = ap is_begun h
+no_advance (Some j) tables txns r h = ap is_rare h
 
-taken_not_begun : (P : Task → Type 0) (r : Reply) → TakenBy P r → is_begun r ≡ false
+taken_not_begun : (P : Task → Type 0) (r : Reply) → TakenBy P r → is_rare r ≡ false
 taken_not_begun P (reply.Taken task) h = refl
 taken_not_begun P (reply.Begun txn plan) h = absurd h
+taken_not_begun P (reply.BadJournal seq) h = absurd h
 taken_not_begun P _ h = refl
 
-no_take_in : (a : TaskName) (taken live : ℕ) (j : JobInfo) (o : Option Table) (source : ℕ → List (List Cell)) (r : Reply) → TakenIn a taken live j o source r → is_begun r ≡ false
+no_take_in : (a : TaskName) (taken live : ℕ) (j : JobInfo) (o : Option Table) (source : ℕ → List (List Cell)) (r : Reply) → TakenIn a taken live j o source r → is_rare r ≡ false
 no_take_in a taken live j None source r h = absurd h
 no_take_in a taken live j (Some t) source r h = taken_not_begun (IsTask a taken live t (change_maps j.change t) (source t.number)) r h
 
-no_take_of : (a : TaskName) (taken live : ℕ) (o : Option JobInfo) (tables : List Table) (source : ℕ → List (List Cell)) (r : Reply) → TakenOf a taken live o tables source r → is_begun r ≡ false
+no_take_of : (a : TaskName) (taken live : ℕ) (o : Option JobInfo) (tables : List Table) (source : ℕ → List (List Cell)) (r : Reply) → TakenOf a taken live o tables source r → is_rare r ≡ false
 no_take_of a taken live None tables source r h = absurd h
 no_take_of a taken live (Some j) tables source r h = no_take_in a taken live j (table_at j.table tables) source r h
 
-no_take : (o : Option TaskName) (taken live : ℕ) (jobs : List JobInfo) (tables : List Table) (source : ℕ → List (List Cell)) (r : Reply) → TakenFor o taken live jobs tables source r → is_begun r ≡ false
+no_take : (o : Option TaskName) (taken live : ℕ) (jobs : List JobInfo) (tables : List Table) (source : ℕ → List (List Cell)) (r : Reply) → TakenFor o taken live jobs tables source r → is_rare r ≡ false
 no_take None taken live jobs tables source r h = absurd h
 no_take (Some a) taken live jobs tables source r h = no_take_of a taken live (job_at a.job jobs) tables source r h
 
-pub begins_by : (Es : List Event) (c : Command) (r : Reply) → Answer Es c r → is_begun r ≡ true → BeginsBy Es c r
+pub begins_by : (Es : List Event) (c : Command) (r : Reply) → Answer Es c r → is_rare r ≡ true → BeginsBy Es c r
 begins_by Es (command.CreateDb name if_not_exists) r a b =
-    absurd (let h = all_not_begun (refusals Es (command.CreateDb name if_not_exists)) (refuse_some NotBegun (not (is_name name)) reply.BadName (λ _. refl), (refuse_some NotBegun (has_db name (databases_of Es)) (cond if_not_exists reply.Done reply.DbExists) (λ _. exists_not_begun if_not_exists reply.DbExists refl), (refuse_some NotBegun (nat_le most (length (databases_of Es))) reply.TooManyDbs (λ _. refl), tt))) (λ r. r ≡ reply.Done) r a b in let z : is_begun r ≡ false = ap is_begun h in cc (z, b))
+    absurd (let h = all_not_begun (refusals Es (command.CreateDb name if_not_exists)) (refuse_some NotBegun (not (is_name name)) reply.BadName (λ _. refl), (refuse_some NotBegun (has_db name (databases_of Es)) (cond if_not_exists reply.Done reply.DbExists) (λ _. exists_not_begun if_not_exists reply.DbExists refl), (refuse_some NotBegun (nat_le most (length (databases_of Es))) reply.TooManyDbs (λ _. refl), tt))) (λ r. r ≡ reply.Done) r a b in let z : is_rare r ≡ false = ap is_rare h in cc (z, b))
 begins_by Es (command.CreateTable db table def if_not_exists) r a b =
-    absurd (let h = all_not_begun (refusals Es (command.CreateTable db table def if_not_exists)) (refuse_some NotBegun (not (has_db db (databases_of Es))) reply.UnknownDb (λ _. refl), (refuse_some NotBegun (is_some (table_named db table (tables_of Es))) (cond if_not_exists reply.Done reply.TableExists) (λ _. exists_not_begun if_not_exists reply.TableExists refl), (refuse_some NotBegun (not (is_name table)) reply.BadName (λ _. refl), (refuse_some NotBegun (nat_le most (length (tables_of Es))) reply.TooManyTables (λ _. refl), (def_not_begun table def, tt))))) (λ r. r ≡ reply.Done) r a b in let z : is_begun r ≡ false = ap is_begun h in cc (z, b))
+    absurd (let h = all_not_begun (refusals Es (command.CreateTable db table def if_not_exists)) (refuse_some NotBegun (not (has_db db (databases_of Es))) reply.UnknownDb (λ _. refl), (refuse_some NotBegun (is_some (table_named db table (tables_of Es))) (cond if_not_exists reply.Done reply.TableExists) (λ _. exists_not_begun if_not_exists reply.TableExists refl), (refuse_some NotBegun (not (is_name table)) reply.BadName (λ _. refl), (refuse_some NotBegun (nat_le most (length (tables_of Es))) reply.TooManyTables (λ _. refl), (def_not_begun table def, tt))))) (λ r. r ≡ reply.Done) r a b in let z : is_rare r ≡ false = ap is_rare h in cc (z, b))
 begins_by Es (command.Begin db table label two_phase at) r a b =
     begun_for (next_of Es) (table_named db table (tables_of Es)) (jobs_of Es) r (all_not_begun (refusals Es (command.Begin db table label two_phase at)) (refuse_some NotBegun (not (has_db db (databases_of Es))) reply.UnknownDb (λ _. refl), (refuse_some NotBegun (is_none (table_named db table (tables_of Es))) reply.UnknownTable (λ _. refl), (label_not_begun label, (used_not_begun (label_of db (label_for label (next_of Es)) (txns_of Es)), tt)))) (BegunFor (next_of Es) (table_named db table (tables_of Es)) (jobs_of Es)) r a b)
 begins_by Es (command.Submit txn built at) r a b =
-    absurd (let h = all_not_begun (refusals Es (command.Submit txn built at)) (submit_not_begun at (txn_at txn (txns_of Es))) (λ r. r ≡ reply.Submitted (placed_for (txn_at txn (txns_of Es)) (txns_of Es) (places_of Es))) r a b in let z : is_begun r ≡ false = ap is_begun h in cc (z, b))
+    absurd (let h = all_not_begun (refusals Es (command.Submit txn built at)) (submit_not_begun at (txn_at txn (txns_of Es))) (λ r. r ≡ reply.Submitted (placed_for (txn_at txn (txns_of Es)) (txns_of Es) (places_of Es))) r a b in let z : is_rare r ≡ false = ap is_rare h in cc (z, b))
 begins_by Es (command.Publish at) r a b =
     absurd (let h = all_not_begun (refusals Es (command.Publish at)) (refuse_some NotBegun (is_none (due (txns_of Es))) reply.NothingToPublish (λ _. refl), tt) (PublishedFor (due (txns_of Es))) r a b in let z = no_table (due (txns_of Es)) r h in cc (z, b))
 begins_by Es (command.Abort db txn at) r a b =
@@ -361,15 +365,15 @@ begins_by Es (command.Abort db txn at) r a b =
 begins_by Es (command.Snapshot db table query) r a b =
     absurd (let h = all_not_begun (refusals Es (command.Snapshot db table query)) (refuse_some NotBegun (not (has_db db (databases_of Es))) reply.UnknownDb (λ _. refl), (refuse_some NotBegun (is_none (table_named db table (tables_of Es))) reply.UnknownTable (λ _. refl), tt)) (ShownFor (table_named db table (tables_of Es)) query (base_of Es) (λ t index. cost_of (stored_of Es t index))) r a b in let z = no_show (table_named db table (tables_of Es)) query (base_of Es) (λ t index. cost_of (stored_of Es t index)) r h in cc (z, b))
 begins_by Es (command.DropTable db table if_exists at) r a b =
-    absurd (let h = all_not_begun (refusals Es (command.DropTable db table if_exists at)) (refuse_some NotBegun (not (has_db db (databases_of Es))) reply.UnknownDb (λ _. refl), (refuse_some NotBegun (is_none (table_named db table (tables_of Es))) (cond if_exists reply.Done reply.UnknownTable) (λ _. exists_not_begun if_exists reply.UnknownTable refl), tt)) (λ r. r ≡ reply.Done) r a b in let z : is_begun r ≡ false = ap is_begun h in cc (z, b))
+    absurd (let h = all_not_begun (refusals Es (command.DropTable db table if_exists at)) (refuse_some NotBegun (not (has_db db (databases_of Es))) reply.UnknownDb (λ _. refl), (refuse_some NotBegun (is_none (table_named db table (tables_of Es))) (cond if_exists reply.Done reply.UnknownTable) (λ _. exists_not_begun if_exists reply.UnknownTable refl), tt)) (λ r. r ≡ reply.Done) r a b in let z : is_rare r ≡ false = ap is_rare h in cc (z, b))
 begins_by Es (command.AddPartition db table part) r a b =
-    absurd (let h = all_not_begun (refusals Es (command.AddPartition db table part)) (refuse_some NotBegun (not (has_db db (databases_of Es))) reply.UnknownDb (λ _. refl), (refuse_some NotBegun (is_none (table_named db table (tables_of Es))) reply.UnknownTable (λ _. refl), (busy_any NotBegun (λ n. refl) (table_named db table (tables_of Es)) (jobs_of Es), (part_not_begun part (table_named db table (tables_of Es)), tt)))) (λ r. r ≡ reply.Done) r a b in let z : is_begun r ≡ false = ap is_begun h in cc (z, b))
+    absurd (let h = all_not_begun (refusals Es (command.AddPartition db table part)) (refuse_some NotBegun (not (has_db db (databases_of Es))) reply.UnknownDb (λ _. refl), (refuse_some NotBegun (is_none (table_named db table (tables_of Es))) reply.UnknownTable (λ _. refl), (busy_any NotBegun (λ n. refl) (table_named db table (tables_of Es)) (jobs_of Es), (part_not_begun part (table_named db table (tables_of Es)), tt)))) (λ r. r ≡ reply.Done) r a b in let z : is_rare r ≡ false = ap is_rare h in cc (z, b))
 begins_by Es (command.Commit db txn at) r a b =
     absurd (let h = all_not_begun (refusals Es (command.Commit db txn at)) (commit_not_begun at (has_db db (databases_of Es)) (txn_by db txn (txns_of Es))) (CommittedFor (txn_by db txn (txns_of Es)) (txns_of Es) (places_of Es)) r a b in let z = no_commit (txn_by db txn (txns_of Es)) (txns_of Es) (places_of Es) r h in cc (z, b))
 begins_by Es (command.Sweep at) r a b =
-    absurd (let h = all_not_begun (refusals Es (command.Sweep at)) (refuse_some NotBegun (not (list_any (sweeps at) (txns_of Es) || list_any (is_job_over at) (jobs_of Es))) reply.NothingToSweep (λ _. refl), tt) (λ r. r ≡ reply.Swept (count_by (is_expired at) (txns_of Es)) (count_by (is_over at) (txns_of Es) + count_by (is_job_over at) (jobs_of Es))) r a b in let z : is_begun r ≡ false = ap is_begun h in cc (z, b))
+    absurd (let h = all_not_begun (refusals Es (command.Sweep at)) (refuse_some NotBegun (not (list_any (sweeps at) (txns_of Es) || list_any (is_job_over at) (jobs_of Es))) reply.NothingToSweep (λ _. refl), tt) (λ r. r ≡ reply.Swept (count_by (is_expired at) (txns_of Es)) (count_by (is_over at) (txns_of Es) + count_by (is_job_over at) (jobs_of Es))) r a b in let z : is_rare r ≡ false = ap is_rare h in cc (z, b))
 begins_by Es (command.AddAlter db table def at) r a b =
-    absurd (let h = all_not_begun (refusals Es (command.AddAlter db table def at)) (add_alter_any NotBegun refl refl (λ n. refl) refl refl refl refl (λ e. refl) db table def (databases_of Es) (tables_of Es) (jobs_of Es)) (λ r. r ≡ reply.Added (last_job_of Es + 1)) r a b in let z : is_begun r ≡ false = ap is_begun h in cc (z, b))
+    absurd (let h = all_not_begun (refusals Es (command.AddAlter db table def at)) (add_alter_any NotBegun refl refl (λ n. refl) refl refl refl refl (λ e. refl) db table def (databases_of Es) (tables_of Es) (jobs_of Es)) (λ r. r ≡ reply.Added (last_job_of Es + 1)) r a b in let z : is_rare r ≡ false = ap is_rare h in cc (z, b))
 begins_by Es (command.CancelAlter db table kind at) r a b =
     absurd (let h = all_not_begun (refusals Es (command.CancelAlter db table kind at)) (cancel_alter_any NotBegun refl refl refl db table kind (databases_of Es) (tables_of Es) (jobs_of Es)) (CancelledFor (table_named db table (tables_of Es)) kind (jobs_of Es)) r a b in let z = no_cancel (table_named db table (tables_of Es)) kind (jobs_of Es) r h in cc (z, b))
 begins_by Es (command.Advance at) r a b =
@@ -378,6 +382,31 @@ begins_by Es command.Take r a b =
     absurd (let h = all_not_begun (refusals Es command.Take) (refuse_some NotBegun (is_none (next_task (jobs_of Es) (tables_of Es) (tasks_of Es))) reply.NoTask (λ _. refl), tt) (TakenFor (next_task (jobs_of Es) (tables_of Es) (tasks_of Es)) (taken_of Es) (live_of Es) (jobs_of Es) (tables_of Es) (source_of Es)) r a b in let z = no_take (next_task (jobs_of Es) (tables_of Es) (tasks_of Es)) (taken_of Es) (live_of Es) (jobs_of Es) (tables_of Es) (source_of Es) r h in cc (z, b))
 begins_by Es (command.Show db what) r a b =
     absurd (let h = all_not_begun (refusals Es (command.Show db what)) (show_any NotBegun refl refl refl db what (databases_of Es) (tables_of Es) (txns_of Es)) (Reports (report Es db what)) r a b in let z = no_report (report Es db what) r h in cc (z, b))
-begins_by Es command.Restart r a b = absurd (let h = all_not_begun [] tt (λ r. r ≡ reply.Done) r a b in let z : is_begun r ≡ false = ap is_begun h in cc (z, b))
+begins_by Es command.Restart r a b = absurd (let h = all_not_begun [] tt (λ r. r ≡ reply.Done) r a b in let z : is_rare r ≡ false = ap is_rare h in cc (z, b))
 begins_by Es (command.Give piece at) r a b =
-    absurd (let h = all_not_begun (refusals Es (command.Give piece at)) (give_any NotBegun (λ n. refl) (λ s. refl) piece (live_of Es) (jobs_of Es) (tasks_of Es)) (λ r. r ≡ reply.Given piece.job (given_state piece.result)) r a b in let z : is_begun r ≡ false = ap is_begun h in cc (z, b))
+    absurd (let h = all_not_begun (refusals Es (command.Give piece at)) (give_any NotBegun (λ n. refl) (λ s. refl) piece (live_of Es) (jobs_of Es) (tasks_of Es)) (λ r. r ≡ reply.Given piece.job (given_state piece.result)) r a b in let z : is_rare r ≡ false = ap is_rare h in cc (z, b))
+
+-- That a record is damaged answers nothing.
+begins_never : (Es : List Event) (c : Command) (seq : ℕ) → BeginsBy Es c (reply.BadJournal seq) → ⊥
+begins_never Es (command.Begin db table label two_phase at) seq (t, found, is) = cc
+begins_never Es (command.CreateDb name if_not_exists) seq h = h
+begins_never Es (command.CreateTable db table def if_not_exists) seq h = h
+begins_never Es (command.Submit txn built at) seq h = h
+begins_never Es (command.Publish at) seq h = h
+begins_never Es (command.Abort db txn at) seq h = h
+begins_never Es (command.Snapshot db table query) seq h = h
+begins_never Es (command.DropTable db table if_exists at) seq h = h
+begins_never Es (command.AddPartition db table part) seq h = h
+begins_never Es (command.Commit db txn at) seq h = h
+begins_never Es (command.Sweep at) seq h = h
+begins_never Es (command.AddAlter db table def at) seq h = h
+begins_never Es (command.CancelAlter db table kind at) seq h = h
+begins_never Es (command.Advance at) seq h = h
+begins_never Es (command.Give piece at) seq h = h
+begins_never Es (command.Show db what) seq h = h
+begins_never Es command.Take seq h = h
+begins_never Es command.Restart seq h = h
+
+pub never_bad : (Es : List Event) (c : Command) (r : Reply) (seq : ℕ) → Answer Es c r ⊎ (r ≡ reply.KeeperFault) → r ≡ reply.BadJournal seq → ⊥
+never_bad Es c r seq (inl a) is = begins_never Es c seq (subst (BeginsBy Es c) is (begins_by Es c r a (ap is_rare is)))
+never_bad Es c r seq (inr f) is = cc (f, is)

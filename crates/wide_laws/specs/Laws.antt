@@ -9,6 +9,9 @@ use Rattle.partitions.specs.LayoutView.{LayoutView}
 use Rattle.partitions.specs.Places.{AreInside, Place, rows_at}
 use Rattle.wide_defs.specs.declared.event.Event.{Event}
 use Rattle.wide_defs.specs.declared.event.Event.TheVariants as event
+use Rattle.wide_defs.specs.declared.reply.Reply.TheVariants as reply
+use Rattle.wide_defs.specs.declared.history.Entry.{Entry}
+use Rattle.wide_defs.specs.declared.history.Entry.TheVariants.{Told, Made}
 use Rattle.wide_defs.specs.declared.catalogue.Table.{Table}
 use Rattle.wide_defs.specs.declared.txn.Txn.{Txn}
 use Rattle.schema_models.specs.ShapeView.{ShapeView}
@@ -147,3 +150,9 @@ target_maps targets = map (λ (x : Target). x.map) targets
 -- where the transaction of that number was not submitted yet, these maps have what its table owes to it
 abbrev pub IsOwed : List Table → List JobInfo → ℕ → List RowMap → Txn → Type 0
 IsOwed tables jobs id maps t = t.id ≡ id → t.state ≡ state.Prepare → IfSome (table_at t.table tables) (Owed jobs id maps)
+
+-- no call says that a record is damaged
+abbrev pub NeverBad : List Entry → Type 0
+NeverBad [] = Unit {0}
+NeverBad (Told e ∷ H) = NeverBad H
+NeverBad (Made c ∷ H) = ((seq : ℕ) → c.reply ≡ reply.BadJournal seq → ⊥) × NeverBad H

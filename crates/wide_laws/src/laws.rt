@@ -28,7 +28,7 @@ ghost use Rattle.wide_defs.specs.May.{Carries, IsBuilt, May};
 ghost use Rattle.wide_defs.specs.Stands.{IsShadow, StandsOpen, View};
 ghost use Rattle.wide_defs.specs.Stored.{StoredList, base_of, lists_of, set_at, set_for, sets_of, stored_of, version_of};
 ghost use Rattle.wide_defs.specs.Transactions.{places_of, txns_of};
-ghost use Rattle.wide_laws.specs.Laws.{ChainsBy, CountsLoads, CountsOnce, EarlierIsAborted, HasShape, IdsAscend, IndexFoldsTo, IsBase, IsOwed, IsPlannedJob, IsSettled, JobsAscend, RunsWell, NumbersAscend, TabletFoldsTo, target_maps, visible_of};
+ghost use Rattle.wide_laws.specs.Laws.{ChainsBy, CountsLoads, CountsOnce, EarlierIsAborted, HasShape, IdsAscend, IndexFoldsTo, IsBase, IsOwed, IsPlannedJob, IsSettled, JobsAscend, NeverBad, RunsWell, NumbersAscend, TabletFoldsTo, target_maps, visible_of};
 ghost use Rattle.wide_laws.specs.Tidy.{Distinct, Each, HasHome, LiveApart, Pairs, PlacesFit, Tells, published_of};
 
 /// The records of records are the records.
@@ -145,4 +145,9 @@ pub fn a_submitted_load_is_of_its_table()
     ensures built { (H : List Entry) (txn : ℕ) (built : Built) (at : ℕ) → May H (Submit txn built at) → IsBuilt built.plan built }
     ensures shape { (H : List Entry) (txn : ℕ) (built : Built) (at : ℕ) → Legal H → May H (Submit txn built at) → Each (HasShape (tables_of (happened H)) txn built.plan.base built.plan.layout) (txns_of (happened H)) }
     ensures owed { (H : List Entry) (txn : ℕ) (built : Built) (at : ℕ) → Legal H → May H (Submit txn built at) → Each (IsOwed (tables_of (happened H)) (jobs_of (happened H)) txn (target_maps built.plan.targets)) (txns_of (happened H)) }
+{}
+
+/// No legal history has the answer that a record is damaged: over a keeper that tells its records there is none.
+pub fn no_record_is_damaged()
+    ensures { (H : List Entry) → Legal H → NeverBad H }
 {}
