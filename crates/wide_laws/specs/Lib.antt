@@ -1,0 +1,4 @@
+pub mod Tidy
+pub mod Laws
+pub mod Examples
+pub mod Parted
