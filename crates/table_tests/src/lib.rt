@@ -7,3 +7,5 @@ mod definitions;
 mod layouts;
 #[cfg(test)]
 mod queries;
+#[cfg(test)]
+mod shapes;
