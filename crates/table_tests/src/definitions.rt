@@ -1,9 +1,10 @@
 // Definitions as a table: the text of each, and what it gives as another.
 use super::layouts::fault;
-use dl_values::{Cell, ColType, Name};
+use super::texts::read;
+use dl_values::{Cell, ColType, Name, NoMemory};
 use partitions::{Bounds, Layout, LayoutError};
 use schema_models::{Model, Shape, ShapeError};
-use sql_text::{Stmt, TableDef, parse_stmt};
+use sql_text::{Part, Stmt, TableDef};
 use std::alloc::Global;
 use std::test::Fail;
 use table_defs::{DefError, define, part_of};
@@ -226,11 +227,19 @@ fn defined(alloc: Global, name: &Name, def: &TableDef) -> Result<String, Fail> {
     }
 }
 
+fn created(stmt: &Stmt) -> Option<(&Name, &TableDef)> {
+    match stmt {
+        Stmt::CreateTable { name, def, .. } => Some((name, def)),
+        _ => None,
+    }
+}
+
 fn given(alloc: Global, text: &str) -> Result<String, Fail> {
     let text = format!(in alloc; "CREATE TABLE t {text}")?;
-    match &parse_stmt(alloc, text.as_str()) {
-        Ok(Stmt::CreateTable { name, def, .. }) => defined(alloc, name, def),
-        _ => Err("no definition".into()),
+    let given = read(alloc, text.as_str())?;
+    match created(&given.stmt) {
+        Some((name, def)) => defined(alloc, name, def),
+        None => Err("no definition".into()),
     }
 }
 
@@ -251,14 +260,24 @@ fn is_end(bounds: &Bounds, end: &Cell) -> bool {
     }
 }
 
+fn added(stmt: &Stmt) -> Option<&Part> {
+    match stmt {
+        Stmt::AddPartition { part, .. } => Some(part),
+        _ => None,
+    }
+}
+
+fn ends_at(alloc: Global, kind: ColType, part: &Part, end: &Cell) -> Result<bool, NoMemory> {
+    let made = part_of(alloc, Some(kind), part)?;
+    Ok(is_end(&made.bounds, end))
+}
+
 // Whether the partition of an ALTER TABLE has this high end, beside a column of a type.
 fn has_end(alloc: Global, kind: ColType, text: &str, end: &Cell) -> Result<bool, Fail> {
-    match &parse_stmt(alloc, text) {
-        Ok(Stmt::AddPartition { part, .. }) => {
-            let made = part_of(alloc, Some(kind), part)?;
-            Ok(is_end(&made.bounds, end))
-        }
-        _ => Err("no partition".into()),
+    let given = read(alloc, text)?;
+    match added(&given.stmt) {
+        Some(part) => Ok(ends_at(alloc, kind, part, end)?),
+        None => Err("no partition".into()),
     }
 }
 

@@ -9,3 +9,5 @@ mod layouts;
 mod queries;
 #[cfg(test)]
 mod shapes;
+#[cfg(test)]
+mod texts;

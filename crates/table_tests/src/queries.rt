@@ -1,9 +1,10 @@
 // Queries over a few rows as tables: the text of each, and its answer as a text.
 use super::shapes::{Column, shape};
+use super::texts::read;
 use dl_values::{AggKind, Cell, ColType, NoMemory, ResultSet, Row, Rows, Text, write_cell};
 use schema_models::{Model, Role, Shape};
 use select_defs::{SelectError, eval};
-use sql_text::{Query, Stmt, parse_stmt};
+use sql_text::{Query, Stmt};
 use std::alloc::Global;
 use std::process::Abort;
 use std::test::Fail;
@@ -268,10 +269,18 @@ fn evaluated(alloc: Global, shape: &Shape, rows: &Rows, query: &Query) -> Result
     }
 }
 
+fn selected(stmt: &Stmt) -> Option<&Query> {
+    match stmt {
+        Stmt::Select(query) => Some(query),
+        _ => None,
+    }
+}
+
 fn answered(alloc: Global, shape: &Shape, rows: &Rows, text: &str) -> Result<Vec<u8>, Fail> {
-    match &parse_stmt(alloc, text) {
-        Ok(Stmt::Select(query)) => evaluated(alloc, shape, rows, query),
-        _ => Err("no query".into()),
+    let given = read(alloc, text)?;
+    match selected(&given.stmt) {
+        Some(query) => evaluated(alloc, shape, rows, query),
+        None => Err("no query".into()),
     }
 }
 
