@@ -1,8 +1,10 @@
 // Definitions as a table: the text of each, and what it gives as another.
-use dl_values::{Cell, ColType};
+use super::layouts::fault;
+use super::texts::read;
+use dl_values::{Cell, ColType, Name, NoMemory};
 use partitions::{Bounds, Layout, LayoutError};
 use schema_models::{Model, Shape, ShapeError};
-use sql_text::{Stmt, parse_stmt};
+use sql_text::{Part, Stmt, TableDef};
 use std::alloc::Global;
 use std::test::Fail;
 use table_defs::{DefError, define, part_of};
@@ -183,47 +185,61 @@ fn shown(alloc: Global, shape: &Shape, layout: &Layout) -> Result<String, Fail> 
     Ok(format!(in alloc; "{word} {keys} of {columns} keys, {parts} parts, {buckets} buckets")?)
 }
 
+// The word of a refusal, and the column that is at fault.
+fn shape_fault(error: ShapeError) -> (&'static str, u64) {
+    match error {
+        ShapeError::TooManyColumns { limit } => ("TooManyColumns", limit),
+        ShapeError::BadName { column } => ("BadName", column),
+        ShapeError::DoubleName { column } => ("DoubleName", column),
+        ShapeError::BadType { column } => ("BadType", column),
+        ShapeError::NoKey { column } => ("NoKey", column),
+        ShapeError::KeyAfterValue { column } => ("KeyAfterValue", column),
+        ShapeError::BadAgg { column } => ("BadAgg", column),
+        ShapeError::BadDefault { column } => ("BadDefault", column),
+    }
+}
+
 fn shape_refused(alloc: Global, error: ShapeError) -> Result<String, Fail> {
-    Ok(match error {
-        ShapeError::TooManyColumns { limit } => format!(in alloc; "TooManyColumns {limit}")?,
-        ShapeError::BadName { column } => format!(in alloc; "BadName {column}")?,
-        ShapeError::DoubleName { column } => format!(in alloc; "DoubleName {column}")?,
-        ShapeError::BadType { column } => format!(in alloc; "BadType {column}")?,
-        ShapeError::NoKey { column } => format!(in alloc; "NoKey {column}")?,
-        ShapeError::KeyAfterValue { column } => format!(in alloc; "KeyAfterValue {column}")?,
-        ShapeError::BadAgg { column } => format!(in alloc; "BadAgg {column}")?,
-        ShapeError::BadDefault { column } => format!(in alloc; "BadDefault {column}")?,
-    })
+    let (word, column) = shape_fault(error);
+    Ok(format!(in alloc; "{word} {column}")?)
 }
 
 fn layout_refused(alloc: Global, error: &LayoutError) -> Result<String, Fail> {
-    Ok(match error {
-        LayoutError::NoColumn { column } => format!(in alloc; "NoColumn {column}")?,
-        LayoutError::NotAKey { column } => format!(in alloc; "NotAKey {column}")?,
-        LayoutError::BadBound { partition } => format!(in alloc; "BadBound {partition}")?,
-        LayoutError::Overlap { partition } => format!(in alloc; "Overlap {partition}")?,
-        LayoutError::BadBuckets => format!(in alloc; "BadBuckets")?,
-        other => format!(in alloc; "{other}")?,
-    })
+    match fault(error) {
+        (word, Some(name)) => Ok(format!(in alloc; "{word}{name}")?),
+        (word, None) => Ok(word.to_string(alloc)?),
+    }
 }
 
 fn refused(alloc: Global, error: &DefError) -> Result<String, Fail> {
     match error {
         DefError::Shape(error) => shape_refused(alloc, *error),
         DefError::Layout(error) => layout_refused(alloc, error),
-        DefError::BadProperty => Ok(format!(in alloc; "BadProperty")?),
+        DefError::BadProperty => Ok("BadProperty".to_string(alloc)?),
         DefError::NoMemory => Err("out of memory".into()),
+    }
+}
+
+fn defined(alloc: Global, name: &Name, def: &TableDef) -> Result<String, Fail> {
+    match &define(alloc, name, def) {
+        Ok((shape, layout)) => shown(alloc, shape, layout),
+        Err(error) => refused(alloc, error),
+    }
+}
+
+fn created(stmt: &Stmt) -> Option<(&Name, &TableDef)> {
+    match stmt {
+        Stmt::CreateTable { name, def, .. } => Some((name, def)),
+        _ => None,
     }
 }
 
 fn given(alloc: Global, text: &str) -> Result<String, Fail> {
     let text = format!(in alloc; "CREATE TABLE t {text}")?;
-    let Ok(Stmt::CreateTable { name, def, .. }) = parse_stmt(alloc, text.as_str()) else {
-        return Err("no definition".into());
-    };
-    match define(alloc, &name, &def) {
-        Ok((shape, layout)) => shown(alloc, &shape, &layout),
-        Err(error) => refused(alloc, &error),
+    let given = read(alloc, text.as_str())?;
+    match created(&given.stmt) {
+        Some((name, def)) => defined(alloc, name, def),
+        None => Err("no definition".into()),
     }
 }
 
@@ -236,16 +252,32 @@ fn definitions_give_a_table_or_their_first_refusal(rt: HostRuntime) -> Result<()
     Ok(())
 }
 
+fn is_end(bounds: &Bounds, end: &Cell) -> bool {
+    match (bounds, end) {
+        (Bounds::Less(Some(Cell::Int(found))), Cell::Int(wanted)) => found == wanted,
+        (Bounds::Less(Some(Cell::Null)), Cell::Null) => true,
+        _ => false,
+    }
+}
+
+fn added(stmt: &Stmt) -> Option<&Part> {
+    match stmt {
+        Stmt::AddPartition { part, .. } => Some(part),
+        _ => None,
+    }
+}
+
+fn ends_at(alloc: Global, kind: ColType, part: &Part, end: &Cell) -> Result<bool, NoMemory> {
+    let made = part_of(alloc, Some(kind), part)?;
+    Ok(is_end(&made.bounds, end))
+}
+
 // Whether the partition of an ALTER TABLE has this high end, beside a column of a type.
 fn has_end(alloc: Global, kind: ColType, text: &str, end: &Cell) -> Result<bool, Fail> {
-    let Ok(Stmt::AddPartition { part, .. }) = parse_stmt(alloc, text) else {
-        return Err("no partition".into());
-    };
-    let made = part_of(alloc, Some(kind), &part)?;
-    match (&made.bounds, end) {
-        (Bounds::Less(Some(Cell::Int(found))), Cell::Int(wanted)) => Ok(found == wanted),
-        (Bounds::Less(Some(Cell::Null)), Cell::Null) => Ok(true),
-        _ => Ok(false),
+    let given = read(alloc, text)?;
+    match added(&given.stmt) {
+        Some(part) => Ok(ends_at(alloc, kind, part, end)?),
+        None => Err("no partition".into()),
     }
 }
 

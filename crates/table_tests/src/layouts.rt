@@ -1,7 +1,8 @@
 // Layouts of a table of sales: what is refused, and where rows are.
+use super::shapes::{Column, shape};
 use dl_values::{Cell, ColType, Name, NoMemory, Row, Text};
 use partitions::{Bounds, Layout, LayoutError, PartDef, PartsDef};
-use schema_models::{ColumnDef, Model, Role, Shape};
+use schema_models::{Model, Role, Shape};
 use sqlite_items::Items;
 use std::alloc::Global;
 use std::test::Fail;
@@ -52,10 +53,7 @@ const CASES: &[Case] = &[
         "Overlap p3",
     ),
     ("k", &[("p1", 0, 20), ("p2", 0, 10)], "k", 1, "Overlap p2"),
-];
-
-// Each refusal with each that comes after it, which often stands before it in the text.
-const PAIRS: &[Case] = &[
+    // Each refusal with each that comes after it, which often stands before it in the text.
     ("v", &[("p1", 0, 10)], "x", 1, "NoColumn x"),
     ("x", &[("p1", 0, 10)], "v", 1, "NoColumn x"),
     ("k", &[("p1", 0, 10)], "x", 0, "NoColumn x"),
@@ -141,73 +139,63 @@ fn names(alloc: Global, of: &str) -> Result<Items<Name>, NoMemory> {
     Ok(all)
 }
 
-fn column(alloc: Global, name: &str, kind: ColType, role: Role) -> Result<ColumnDef, NoMemory> {
-    Ok(ColumnDef {
-        name: Name::new(alloc, name.as_bytes())?,
-        kind,
-        nullable: true,
-        role,
-        default: None,
-    })
-}
-
-fn shape(alloc: Global, model: Model) -> Result<Option<Shape>, NoMemory> {
-    let mut columns = Vec::new(alloc);
-    columns.push(column(alloc, "k", ColType::Int, Role::Key)?)?;
-    columns.push(column(alloc, "c", ColType::Varchar(9), Role::Key)?)?;
-    columns.push(column(alloc, "v", ColType::BigInt, Role::Plain)?)?;
-    Ok(Shape::build(model, columns).ok())
-}
-
-// The name of a refusal, with what it names.
-fn told(alloc: Global, built: &Result<(), LayoutError>) -> Result<Text, NoMemory> {
-    let (fault, name) = match built {
-        Ok(()) => ("Ok", None),
-        Err(LayoutError::NotPartitioned) => ("NotPartitioned", None),
-        Err(LayoutError::NoColumn { column }) => ("NoColumn ", Some(column)),
-        Err(LayoutError::NotAKey { column }) => ("NotAKey ", Some(column)),
-        Err(LayoutError::BadBuckets) => ("BadBuckets", None),
-        Err(LayoutError::BadBound { partition }) => ("BadBound ", Some(partition)),
-        Err(LayoutError::BadName { partition }) => ("BadName ", Some(partition)),
-        Err(LayoutError::DoubleName { partition }) => ("DoubleName ", Some(partition)),
-        Err(LayoutError::Overlap { partition }) => ("Overlap ", Some(partition)),
-        Err(LayoutError::TooManyPartitions) => ("TooManyPartitions", None),
-        Err(LayoutError::NoMemory) => ("NoMemory", None),
-    };
-    let mut bytes = Vec::from_slice(alloc, fault.as_bytes())?;
-    if let Some(name) = name {
-        bytes.extend_from_slice(name.bytes())?;
+/// The word of a refusal, and what it names.
+pub fn fault(error: &LayoutError) -> (&'static str, Option<&Name>) {
+    match error {
+        LayoutError::NotPartitioned => ("NotPartitioned", None),
+        LayoutError::NoColumn { column } => ("NoColumn ", Some(column)),
+        LayoutError::NotAKey { column } => ("NotAKey ", Some(column)),
+        LayoutError::BadBuckets => ("BadBuckets", None),
+        LayoutError::BadBound { partition } => ("BadBound ", Some(partition)),
+        LayoutError::BadName { partition } => ("BadName ", Some(partition)),
+        LayoutError::DoubleName { partition } => ("DoubleName ", Some(partition)),
+        LayoutError::Overlap { partition } => ("Overlap ", Some(partition)),
+        LayoutError::TooManyPartitions => ("TooManyPartitions", None),
+        LayoutError::NoMemory => ("NoMemory", None),
     }
-    Ok(Text::new(alloc, bytes.as_slice())?)
 }
 
-fn case(alloc: Global, case: &Case) -> Result<Option<Text>, NoMemory> {
+// Whether a layout was built or refused as this text says: by the word, and the name of what is at fault.
+fn is_told(built: &Result<(), LayoutError>, wanted: &str) -> bool {
+    let (word, name) = match built {
+        Ok(()) => ("Ok", None),
+        Err(error) => fault(error),
+    };
+    match (wanted.strip_prefix(word), name) {
+        (Some(rest), Some(name)) => rest.as_bytes() == name.bytes(),
+        (Some(rest), None) => rest.is_empty(),
+        (None, _) => false,
+    }
+}
+
+// The columns `k`, `c` and `v` of all cases.
+const COLUMNS: &[Column] = &[
+    ("k", ColType::Int, Role::Key),
+    ("c", ColType::Varchar(9), Role::Key),
+    ("v", ColType::BigInt, Role::Plain),
+];
+
+fn columns() -> &'static [Column] {
+    COLUMNS
+}
+
+fn build(alloc: Global, shape: &Shape, case: &Case) -> Result<(), LayoutError> {
     let (by, of, hash, buckets, _) = case;
-    let Some(shape) = shape(alloc, Model::Unique)? else {
-        return Ok(None);
-    };
     let def = PartsDef::ByRange(Name::new(alloc, by.as_bytes())?, parts(alloc, of)?);
-    let built = match Layout::build(alloc, &shape, def, names(alloc, hash)?, *buckets) {
-        Ok(_) => Ok(()),
-        Err(fault) => Err(fault),
-    };
-    Ok(Some(told(alloc, &built)?))
+    let _ = Layout::build(alloc, shape, def, names(alloc, hash)?, *buckets)?;
+    Ok(())
 }
 
 fn cases() -> &'static [Case] {
     CASES
 }
 
-fn pairs() -> &'static [Case] {
-    PAIRS
-}
-
 #[test]
 fn the_first_refusal_is_told(rt: HostRuntime) -> Result<(), Fail> {
-    let alloc = rt.alloc();
-    for one in cases().iter().chain(pairs()) {
-        let told = case(alloc, one)?.expect(&rt, "the columns are a shape");
-        assert_eq!(rt; told.bytes(), one.4.as_bytes());
+    let shape = shape(rt.alloc(), Model::Unique, columns())?;
+    for one in cases() {
+        let built = build(rt.alloc(), &shape, one);
+        assert!(rt; is_told(&built, one.4), "{}", one.4);
     }
     Ok(())
 }
@@ -235,83 +223,112 @@ fn many(alloc: Global, count: i64, back: i64) -> Result<Items<PartDef>, NoMemory
 }
 
 // How many partitions, how far the last one begins before its place, how many buckets, and what that is refused as.
-const COUNTS: &[(i64, i64, u32, &str)] = &[
+type Count = (i64, i64, u32, &'static str);
+
+const COUNTS: &[Count] = &[
     (1000, 0, 1, "Ok"),
     (1001, 0, 1, "TooManyPartitions"),
     (1001, 1, 1, "Overlap p1000"),
     (1001, 0, 0, "BadBuckets"),
 ];
 
-fn counts() -> &'static [(i64, i64, u32, &'static str)] {
+fn counts() -> &'static [Count] {
     COUNTS
 }
 
 // A layout by `k` of so many partitions.
-fn layout_of(
-    alloc: Global,
-    shape: &Shape,
-    count: i64,
-    back: i64,
-    buckets: u32,
-) -> Result<Layout, LayoutError> {
-    let def = PartsDef::ByRange(Name::new(alloc, b"k")?, many(alloc, count, back)?);
-    Layout::build(alloc, shape, def, names(alloc, "k")?, buckets)
+fn layout_of(alloc: Global, shape: &Shape, of: &Count) -> Result<Layout, LayoutError> {
+    let (count, back, buckets, _) = of;
+    let def = PartsDef::ByRange(Name::new(alloc, b"k")?, many(alloc, *count, *back)?);
+    Layout::build(alloc, shape, def, names(alloc, "k")?, *buckets)
+}
+
+fn build_many(alloc: Global, shape: &Shape, of: &Count) -> Result<(), LayoutError> {
+    let _ = layout_of(alloc, shape, of)?;
+    Ok(())
+}
+
+fn add(alloc: Global, layout: &mut Layout, one: &Part) -> Result<(), LayoutError> {
+    layout.add(alloc, part(alloc, one)?)
+}
+
+// Whether a partition is refused in these words, and the layout still has so many.
+fn refuses(alloc: Global, layout: &mut Layout, one: &Part, wanted: &str, parts: usize) -> bool {
+    is_told(&add(alloc, layout, one), wanted) && layout.parts().len() == parts
+}
+
+fn is_full(alloc: Global, shape: &Shape) -> Result<bool, LayoutError> {
+    let mut layout = layout_of(alloc, shape, &(1000, 0, 1, "Ok"))?;
+    let last = ("last", 2000, 2001);
+    Ok(refuses(alloc, &mut layout, &last, "TooManyPartitions", 1000))
 }
 
 #[test]
 fn a_layout_has_a_thousand_partitions_and_no_more(rt: HostRuntime) -> Result<(), Fail> {
-    let alloc = rt.alloc();
-    let shape = shape(alloc, Model::Unique)?.expect(&rt, "the columns are a shape");
-    for (count, back, buckets, wanted) in counts() {
-        let built = match layout_of(alloc, &shape, *count, *back, *buckets) {
-            Ok(_) => Ok(()),
-            Err(fault) => Err(fault),
-        };
-        assert_eq!(rt; told(alloc, &built)?.bytes(), wanted.as_bytes());
+    let shape = shape(rt.alloc(), Model::Unique, columns())?;
+    for one in counts() {
+        let built = build_many(rt.alloc(), &shape, one);
+        assert!(rt; is_told(&built, one.3), "{}", one.3);
     }
-    let mut layout = layout_of(alloc, &shape, 1000, 0, 1)?;
-    let added = told(
-        alloc,
-        &layout.add(alloc, part(alloc, &("last", 2000, 2001))?),
-    )?;
-    assert_eq!(rt; added.bytes(), b"TooManyPartitions".as_slice());
-    assert_eq!(rt; layout.parts().len(), 1000);
+    assert!(rt; is_full(rt.alloc(), &shape)?);
     Ok(())
 }
 
-// A layout of `day DATE KEY, v BIGINT` with one partition below this end.
-fn by_day(alloc: Global, high: Cell) -> Result<Option<Result<Layout, LayoutError>>, NoMemory> {
-    let mut columns = Vec::new(alloc);
-    columns.push(column(alloc, "day", ColType::Date, Role::Key)?)?;
-    columns.push(column(alloc, "v", ColType::BigInt, Role::Plain)?)?;
-    let Ok(shape) = Shape::build(Model::Unique, columns) else {
-        return Ok(None);
-    };
+const DAYS: &[Column] = &[
+    ("day", ColType::Date, Role::Key),
+    ("v", ColType::BigInt, Role::Plain),
+];
+
+fn days() -> &'static [Column] {
+    DAYS
+}
+
+// One partition below this end.
+fn below(alloc: Global, high: Cell) -> Result<Items<PartDef>, NoMemory> {
     let mut parts = Items::new(alloc);
-    let name = Name::new(alloc, b"p1")?;
     parts.push(PartDef {
-        name,
+        name: Name::new(alloc, b"p1")?,
         bounds: Bounds::Less(Some(high)),
     })?;
-    let def = PartsDef::ByRange(Name::new(alloc, b"day")?, parts);
-    Ok(Some(Layout::build(alloc, &shape, def, names(alloc, "day")?, 1)))
+    Ok(parts)
+}
+
+// A layout of `day DATE KEY, v BIGINT` with one partition below this end.
+fn by_day(alloc: Global, shape: &Shape, high: Cell) -> Result<Layout, LayoutError> {
+    let def = PartsDef::ByRange(Name::new(alloc, b"day")?, below(alloc, high)?);
+    Layout::build(alloc, shape, def, names(alloc, "day")?, 1)
+}
+
+fn build_by_day(alloc: Global, shape: &Shape, high: Cell) -> Result<(), LayoutError> {
+    let _ = by_day(alloc, shape, high)?;
+    Ok(())
+}
+
+// The place of a row of a day.
+fn place_of_day(
+    alloc: Global,
+    layout: &Layout,
+    day: u32,
+) -> Result<Option<(usize, usize)>, NoMemory> {
+    let mut row = Row::new(alloc);
+    row.push(Cell::Day(day))?;
+    row.push(Cell::Int(4))?;
+    Ok(layout.place(&row))
+}
+
+fn ends_at_days(alloc: Global, shape: &Shape) -> Result<bool, LayoutError> {
+    let layout = by_day(alloc, shape, Cell::Day(20240201))?;
+    let last = place_of_day(alloc, &layout, 20240131)?;
+    let next = place_of_day(alloc, &layout, 20240201)?;
+    Ok(last == Some((0, 0)) && next == None)
 }
 
 #[test]
 fn partitions_by_day_end_at_days(rt: HostRuntime) -> Result<(), Fail> {
-    let alloc = rt.alloc();
-    let layout = by_day(alloc, Cell::Day(20240201))?.expect(&rt, "the columns are a shape")?;
-    for (day, wanted) in [(20240131, Some((0, 0))), (20240201, None)] {
-        let mut row = Row::new(alloc);
-        row.push(Cell::Day(day))?;
-        row.push(Cell::Int(4))?;
-        assert_eq!(rt; layout.place(&row), wanted);
-    }
-    let refused = match by_day(alloc, Cell::Int(20240201))?.expect(&rt, "the columns are a shape") {
-        Ok(_) => Ok(()),
-        Err(fault) => Err(fault),
-    };
-    assert_eq!(rt; told(alloc, &refused)?.bytes(), b"BadBound p1".as_slice());
+    let shape = shape(rt.alloc(), Model::Unique, days())?;
+    assert!(rt; ends_at_days(rt.alloc(), &shape)?);
+    let refused = build_by_day(rt.alloc(), &shape, Cell::Int(20240201));
+    assert!(rt; is_told(&refused, "BadBound p1"));
     Ok(())
 }
 
@@ -338,54 +355,63 @@ fn places() -> &'static [Place] {
     PLACES
 }
 
+fn is_at(alloc: Global, layout: &Layout, of: &Place) -> Result<bool, NoMemory> {
+    let (key, city, wanted) = of;
+    let row = row(alloc, end(*key).unwrap_or(Cell::Null), city)?;
+    Ok(layout.place(&row) == *wanted)
+}
+
 // Three partitions by the key, the last one added behind the others.
 fn grown(alloc: Global, shape: &Shape) -> Result<Layout, LayoutError> {
     let of = parts(alloc, &[("p1", 20, 30), ("p2", 0, 10)])?;
     let def = PartsDef::ByRange(Name::new(alloc, b"k")?, of);
     let mut layout = Layout::build(alloc, shape, def, names(alloc, "c")?, 4)?;
-    layout.add(alloc, part(alloc, &("p3", 10, 20))?)?;
+    add(alloc, &mut layout, &("p3", 10, 20))?;
     Ok(layout)
+}
+
+// A copy of that layout, over the shape once more.
+fn copied(alloc: Global, shape: &Shape) -> Result<Layout, LayoutError> {
+    let layout = grown(alloc, shape)?.copy(alloc)?;
+    Ok(layout.over(alloc, shape)?)
 }
 
 #[test]
 fn rows_have_the_places_of_their_keys(rt: HostRuntime) -> Result<(), Fail> {
-    let alloc = rt.alloc();
-    let shape = shape(alloc, Model::Duplicate)?.expect(&rt, "the columns are a shape");
-    let layout = grown(alloc, &shape)?;
-    let copy = layout.copy(alloc)?.over(alloc, &shape)?;
-    for (key, city, wanted) in places() {
-        let row = row(alloc, end(*key).unwrap_or(Cell::Null), city)?;
-        assert_eq!(rt; copy.place(&row), *wanted);
+    let shape = shape(rt.alloc(), Model::Duplicate, columns())?;
+    let layout = copied(rt.alloc(), &shape)?;
+    for one in places() {
+        assert!(rt; is_at(rt.alloc(), &layout, one)?, "{}", one.0);
     }
     Ok(())
 }
 
 #[test]
 fn a_partition_that_meets_another_is_not_added(rt: HostRuntime) -> Result<(), Fail> {
-    let alloc = rt.alloc();
-    let shape = shape(alloc, Model::Duplicate)?.expect(&rt, "the columns are a shape");
-    let mut layout = grown(alloc, &shape)?;
-    let told = told(alloc, &layout.add(alloc, part(alloc, &("p4", 29, 40))?))?;
-    assert_eq!(rt; told.bytes(), b"Overlap p4".as_slice());
-    assert_eq!(rt; layout.parts().len(), 3);
+    let shape = shape(rt.alloc(), Model::Duplicate, columns())?;
+    let mut layout = grown(rt.alloc(), &shape)?;
+    assert!(rt; refuses(rt.alloc(), &mut layout, &("p4", 29, 40), "Overlap p4", 3));
     Ok(())
+}
+
+fn whole(alloc: Global, shape: &Shape) -> Result<Layout, NoMemory> {
+    let name = Name::new(alloc, b"t")?;
+    Layout::whole(alloc, shape, name, names(alloc, "v")?, 4)
+}
+
+fn is_whole(layout: &Layout) -> bool {
+    layout.column().is_none()
+        && layout.columns().len() == 3
+        && layout.hash().len() == 1
+        && layout.buckets() == 4
 }
 
 #[test]
 fn a_whole_table_is_one_partition(rt: HostRuntime) -> Result<(), Fail> {
-    let alloc = rt.alloc();
-    let shape = shape(alloc, Model::Duplicate)?.expect(&rt, "the columns are a shape");
-    let name = Name::new(alloc, b"t")?;
-    let mut layout = Layout::whole(alloc, &shape, name, names(alloc, "v")?, 4)?;
-    let added = told(alloc, &layout.add(alloc, part(alloc, &("p 1", 9, 5))?))?;
-    assert_eq!(rt; added.bytes(), b"NotPartitioned".as_slice());
-    assert!(rt; layout.column().is_none());
-    assert_eq!(rt; layout.columns().len(), 3);
-    assert_eq!(rt; layout.hash().len(), 1);
-    assert_eq!(rt; layout.buckets(), 4);
-    assert_eq!(rt;
-        layout.place(&row(alloc, Cell::Null, "Oslo")?),
-        Some((0, 0))
-    );
+    let shape = shape(rt.alloc(), Model::Duplicate, columns())?;
+    let mut layout = whole(rt.alloc(), &shape)?;
+    assert!(rt; refuses(rt.alloc(), &mut layout, &("p 1", 9, 5), "NotPartitioned", 1));
+    assert!(rt; is_whole(&layout));
+    assert!(rt; is_at(rt.alloc(), &layout, &(0, "Oslo", Some((0, 0))))?);
     Ok(())
 }

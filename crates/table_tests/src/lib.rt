@@ -7,3 +7,7 @@ mod definitions;
 mod layouts;
 #[cfg(test)]
 mod queries;
+#[cfg(test)]
+mod shapes;
+#[cfg(test)]
+mod texts;

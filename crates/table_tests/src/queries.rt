@@ -1,8 +1,10 @@
 // Queries over a few rows as tables: the text of each, and its answer as a text.
-use dl_values::{AggKind, Cell, ColType, Name, NoMemory, ResultSet, Row, Rows, Text, write_cell};
-use schema_models::{ColumnDef, Model, Role, Shape};
+use super::shapes::{Column, shape};
+use super::texts::read;
+use dl_values::{AggKind, Cell, ColType, NoMemory, ResultSet, Row, Rows, Text, write_cell};
+use schema_models::{Model, Role, Shape};
 use select_defs::{SelectError, eval};
-use sql_text::{Query, Stmt, parse_stmt};
+use sql_text::{Query, Stmt};
 use std::alloc::Global;
 use std::process::Abort;
 use std::test::Fail;
@@ -180,74 +182,22 @@ const SALES: &[(&str, &str)] = &[
     ("SELECT MAX(day) FROM sales", "max(day) DATE;2024-02-10;"),
 ];
 
-fn pairs() -> &'static [(&'static str, &'static str)] {
-    PAIRS
-}
+const PAIRS_COLUMNS: &[Column] = &[
+    ("k", ColType::Int, Role::Key),
+    ("v", ColType::Int, Role::Plain),
+];
 
-fn types() -> &'static [(&'static str, &'static str)] {
-    TYPES
-}
+const TYPES_COLUMNS: &[Column] = &[
+    ("i", ColType::TinyInt, Role::Key),
+    ("d", ColType::Date, Role::Plain),
+    ("s", ColType::Varchar(4), Role::Plain),
+];
 
-fn empty() -> &'static [(&'static str, &'static str)] {
-    EMPTY
-}
-
-fn sales() -> &'static [(&'static str, &'static str)] {
-    SALES
-}
-
-fn column(
-    alloc: Global,
-    columns: &mut Vec<ColumnDef>,
-    name: &str,
-    kind: ColType,
-    role: Role,
-) -> Result<(), NoMemory> {
-    columns.push(ColumnDef {
-        name: Name::new(alloc, name.as_bytes())?,
-        kind,
-        nullable: true,
-        role,
-        default: None,
-    })?;
-    Ok(())
-}
-
-fn shape(model: Model, columns: Vec<ColumnDef>) -> Result<Shape, Fail> {
-    match Shape::build(model, columns) {
-        Ok(shape) => Ok(shape),
-        Err(_) => Err("no shape".into()),
-    }
-}
-
-fn pairs_shape(alloc: Global) -> Result<Shape, Fail> {
-    let mut columns = Vec::new(alloc);
-    column(alloc, &mut columns, "k", ColType::Int, Role::Key)?;
-    column(alloc, &mut columns, "v", ColType::Int, Role::Plain)?;
-    shape(Model::Duplicate, columns)
-}
-
-fn types_shape(alloc: Global) -> Result<Shape, Fail> {
-    let mut columns = Vec::new(alloc);
-    column(alloc, &mut columns, "i", ColType::TinyInt, Role::Key)?;
-    column(alloc, &mut columns, "d", ColType::Date, Role::Plain)?;
-    column(alloc, &mut columns, "s", ColType::Varchar(4), Role::Plain)?;
-    shape(Model::Duplicate, columns)
-}
-
-fn sales_shape(alloc: Global) -> Result<Shape, Fail> {
-    let mut columns = Vec::new(alloc);
-    column(alloc, &mut columns, "city", ColType::Varchar(16), Role::Key)?;
-    column(alloc, &mut columns, "day", ColType::Date, Role::Key)?;
-    column(
-        alloc,
-        &mut columns,
-        "items",
-        ColType::BigInt,
-        Role::Agg(AggKind::Sum),
-    )?;
-    shape(Model::Aggregate, columns)
-}
+const SALES_COLUMNS: &[Column] = &[
+    ("city", ColType::Varchar(16), Role::Key),
+    ("day", ColType::Date, Role::Key),
+    ("items", ColType::BigInt, Role::Agg(AggKind::Sum)),
+];
 
 fn cell(alloc: Global, kind: ColType, text: &str) -> Result<Cell, Fail> {
     if text == "\\N" {
@@ -308,24 +258,38 @@ fn shown(alloc: Global, set: &ResultSet) -> Result<Vec<u8>, NoMemory> {
     Ok(out)
 }
 
-fn query(alloc: Global, text: &str) -> Result<Query, Fail> {
-    match parse_stmt(alloc, text) {
-        Ok(Stmt::Select(query)) => Ok(query),
-        _ => Err("no query".into()),
+fn refused(alloc: Global, error: &SelectError) -> Result<Vec<u8>, Fail> {
+    Ok(format!(in alloc; "{error}")?.into_bytes())
+}
+
+fn evaluated(alloc: Global, shape: &Shape, rows: &Rows, query: &Query) -> Result<Vec<u8>, Fail> {
+    match &eval(alloc, shape, shape, query, rows) {
+        Ok(set) => Ok(shown(alloc, set)?),
+        Err(error) => refused(alloc, error),
     }
 }
 
-fn refused(alloc: Global, error: &SelectError) -> Result<Vec<u8>, Fail> {
-    let text = format!(in alloc; "{error}")?;
-    Ok(Vec::from_slice(alloc, text.as_bytes())?)
+fn selected(stmt: &Stmt) -> Option<&Query> {
+    match stmt {
+        Stmt::Select(query) => Some(query),
+        _ => None,
+    }
 }
 
 fn answered(alloc: Global, shape: &Shape, rows: &Rows, text: &str) -> Result<Vec<u8>, Fail> {
-    let query = query(alloc, text)?;
-    match eval(alloc, shape, shape, &query, rows) {
-        Ok(set) => Ok(shown(alloc, &set)?),
-        Err(error) => refused(alloc, &error),
+    let given = read(alloc, text)?;
+    match selected(&given.stmt) {
+        Some(query) => evaluated(alloc, shape, rows, query),
+        None => Err("no query".into()),
     }
+}
+
+// A table: its model, its columns, its rows as lines, and its queries, each with its answer.
+struct Table {
+    model: Model,
+    columns: &'static [Column],
+    rows: &'static str,
+    queries: &'static [(&'static str, &'static str)],
 }
 
 fn answers(
@@ -333,40 +297,81 @@ fn answers(
     alloc: Global,
     shape: &Shape,
     rows: &Rows,
-    table: &[(&str, &str)],
+    queries: &[(&str, &str)],
 ) -> Result<(), Fail> {
-    for (text, wanted) in table {
+    for (text, wanted) in queries {
         let answer = answered(alloc, shape, rows, text)?;
         assert_eq!(rt; answer.as_slice(), wanted.as_bytes(), "{text}");
     }
     Ok(())
 }
 
+fn answers_of(rt: &impl Abort, alloc: Global, table: &Table) -> Result<(), Fail> {
+    let shape = shape(alloc, table.model, table.columns)?;
+    let list = rows(alloc, &shape, table.rows)?;
+    answers(rt, alloc, &shape, &list, table.queries)
+}
+
+const PAIRS_TABLE: &Table = &Table {
+    model: Model::Duplicate,
+    columns: PAIRS_COLUMNS,
+    rows: "1,5\n1,6\n2,7",
+    queries: PAIRS,
+};
+
+fn pairs() -> &'static Table {
+    PAIRS_TABLE
+}
+
 #[test]
 fn pairs_are_queried(rt: HostRuntime) -> Result<(), Fail> {
-    let shape = pairs_shape(rt.alloc())?;
-    let list = rows(rt.alloc(), &shape, "1,5\n1,6\n2,7")?;
-    answers(&rt, rt.alloc(), &shape, &list, pairs())
+    answers_of(&rt, rt.alloc(), pairs())
+}
+
+const TYPES_TABLE: &Table = &Table {
+    model: Model::Duplicate,
+    columns: TYPES_COLUMNS,
+    rows: "1,\\N,a\n3,2024-01-05,\u{e9}\n\\N,2024-01-05,b\n2,2024-02-10,\\N",
+    queries: TYPES,
+};
+
+fn types() -> &'static Table {
+    TYPES_TABLE
 }
 
 #[test]
 fn each_type_is_compared(rt: HostRuntime) -> Result<(), Fail> {
-    let shape = types_shape(rt.alloc())?;
-    let text = "1,\\N,a\n3,2024-01-05,\u{e9}\n\\N,2024-01-05,b\n2,2024-02-10,\\N";
-    let list = rows(rt.alloc(), &shape, text)?;
-    answers(&rt, rt.alloc(), &shape, &list, types())
+    answers_of(&rt, rt.alloc(), types())
+}
+
+const EMPTY_TABLE: &Table = &Table {
+    model: Model::Duplicate,
+    columns: PAIRS_COLUMNS,
+    rows: "",
+    queries: EMPTY,
+};
+
+fn empty() -> &'static Table {
+    EMPTY_TABLE
 }
 
 #[test]
 fn an_empty_table_is_queried(rt: HostRuntime) -> Result<(), Fail> {
-    let shape = pairs_shape(rt.alloc())?;
-    answers(&rt, rt.alloc(), &shape, &Rows::new(rt.alloc()), empty())
+    answers_of(&rt, rt.alloc(), empty())
+}
+
+const SALES_TABLE: &Table = &Table {
+    model: Model::Aggregate,
+    columns: SALES_COLUMNS,
+    rows: "Oslo,2024-01-05,3\nOslo,2024-01-06,1\nOslo,2024-02-10,4\nRome,2024-01-05,5",
+    queries: SALES,
+};
+
+fn sales() -> &'static Table {
+    SALES_TABLE
 }
 
 #[test]
 fn sales_are_summed_by_city(rt: HostRuntime) -> Result<(), Fail> {
-    let shape = sales_shape(rt.alloc())?;
-    let text = "Oslo,2024-01-05,3\nOslo,2024-01-06,1\nOslo,2024-02-10,4\nRome,2024-01-05,5";
-    let list = rows(rt.alloc(), &shape, text)?;
-    answers(&rt, rt.alloc(), &shape, &list, sales())
+    answers_of(&rt, rt.alloc(), sales())
 }

@@ -1,151 +1,117 @@
 // Tables of folds, beside the plain fold.
 ghost use Rattle.std.specs.Prelude.{◌≡◌, ◌<◌};
 
+use super::tables::{Pair, TextPair, are_same, row, rows, rows_of_texts, shape};
 use dl_outside::Steps;
-use dl_values::{
-    AggKind, Cell, ColType, Name, NoMemory, Row, Rows, Text, compare_slices, write_cell,
-};
+use dl_values::{AggKind, ColType, NoMemory, Row, Rows, write_cell};
 use row_fold::{SortedRows, fold as fold_list, fold_rows, fold_rows_of, fold_sorted};
-use schema_models::{ColumnDef, Model, Role, Shape, fold};
+use schema_models::{Model, Role, Shape, fold};
 use std::alloc::Global;
-use std::cmp::Ordering;
 use std::marker::Brand;
 use std::sync::Arc;
 use std::sync::ledger::{Blank, Ledger};
 use std::test::Fail;
 
-type Pair = (Option<i64>, Option<i64>);
-
-fn cell(value: Option<i64>) -> Cell {
-    match value {
-        Some(value) => Cell::Int(value),
-        None => Cell::Null,
-    }
+fn quick_is(alloc: Global, shape: &Shape, given: Rows, wanted: &Rows) -> Result<bool, NoMemory> {
+    let quick = fold_rows(alloc, shape, given)?;
+    Ok(are_same(&quick, wanted))
 }
 
-fn column(alloc: Global, name: &[u8], kind: ColType, role: Role) -> Result<ColumnDef, NoMemory> {
-    Ok(ColumnDef {
-        name: Name::new(alloc, name)?,
-        kind,
-        nullable: true,
-        role,
-        default: None,
-    })
-}
-
-// A shape of a key `k` of a type and a BIGINT value `v`.
-fn shape(alloc: Global, model: Model, key: ColType, role: Role) -> Result<Option<Shape>, NoMemory> {
-    let mut columns = Vec::new(alloc);
-    columns.push(column(alloc, b"k", key, Role::Key)?)?;
-    columns.push(column(alloc, b"v", ColType::BigInt, role)?)?;
-    Ok(Shape::build(model, columns).ok())
-}
-
-fn row(alloc: Global, key: Cell, value: Option<i64>) -> Result<Row, NoMemory> {
-    let mut row = Row::new(alloc);
-    row.push(key)?;
-    row.push(cell(value))?;
-    Ok(row)
-}
-
-fn rows(alloc: Global, of: &[Pair]) -> Result<Rows, NoMemory> {
-    let mut rows = Rows::new(alloc);
-    for (key, value) in of {
-        rows.push(row(alloc, cell(*key), *value)?)?;
-    }
-    Ok(rows)
-}
-
-fn are_same(a: &Rows, b: &Rows) -> bool {
-    if a.len() != b.len() {
-        return false;
-    }
-    for place in 0..a.len() {
-        if compare_slices(a.row(place), b.row(place)) != Ordering::Equal {
-            return false;
-        }
-    }
-    true
+// The fold of rows that stay here, and of what it gave once more.
+fn kept_is(alloc: Global, shape: &Shape, given: &Rows, wanted: &Rows) -> Result<bool, NoMemory> {
+    let kept = fold_rows_of(alloc, shape, given)?;
+    let again = fold_rows_of(alloc, shape, &kept)?;
+    Ok(are_same(&kept, wanted) && are_same(&again, wanted))
 }
 
 // Whether the quick folds of these rows are the plain one, and these many rows.
-fn agrees(
-    alloc: Global,
-    model: Model,
-    role: Role,
-    of: &[Pair],
-    count: usize,
-) -> Result<bool, NoMemory> {
-    let Some(shape) = shape(alloc, model, ColType::BigInt, role)? else {
-        return Ok(false);
-    };
-    let given = rows(alloc, of)?;
-    let plain = fold(alloc, &shape, &given)?;
-    let kept = fold_rows_of(alloc, &shape, &given)?;
-    let again = fold_rows_of(alloc, &shape, &kept)?;
-    let quick = fold_rows(alloc, &shape, given)?;
-    let same = are_same(&kept, &plain) && are_same(&again, &plain) && are_same(&quick, &plain);
-    Ok(same && plain.len() == count)
+fn agrees(alloc: Global, shape: &Shape, given: Rows, count: usize) -> Result<bool, NoMemory> {
+    let plain = fold(alloc, shape, &given)?;
+    let kept = kept_is(alloc, shape, &given, &plain)?;
+    let quick = quick_is(alloc, shape, given, &plain)?;
+    Ok(kept && quick && plain.len() == count)
+}
+
+const GIVEN: &[Pair] = &[
+    (Some(2), Some(1)),
+    (None, Some(7)),
+    (Some(i64::MIN + 1), Some(3)),
+    (Some(i64::MAX), Some(4)),
+    (Some(i64::MIN), Some(5)),
+    (Some(2), None),
+    (Some(-1), Some(6)),
+    (Some(i64::MAX - 1), Some(4)),
+    (Some(2), Some(1)),
+    (Some(i64::MIN), Some(8)),
+];
+
+fn given() -> &'static [Pair] {
+    GIVEN
+}
+
+// A model, the role of the value, how many of the rows are folded, and how many rows that gives.
+type Case = (Model, Role, usize, usize);
+
+const CASES: &[Case] = &[
+    (Model::Duplicate, Role::Plain, 10, 10),
+    (Model::Unique, Role::Plain, 10, 7),
+    (Model::Aggregate, Role::Agg(AggKind::Sum), 10, 7),
+    (Model::Aggregate, Role::Agg(AggKind::Max), 10, 7),
+    (
+        Model::Aggregate,
+        Role::Agg(AggKind::ReplaceIfNotNull),
+        10,
+        7,
+    ),
+    (Model::Unique, Role::Plain, 0, 0),
+];
+
+fn cases() -> &'static [Case] {
+    CASES
+}
+
+fn case_agrees(alloc: Global, of: &Case) -> Result<bool, Fail> {
+    let (model, role, first, count) = of;
+    let shape = shape(alloc, *model, ColType::BigInt, *role)?;
+    let given = given().get(..*first).unwrap_or(&[]);
+    Ok(agrees(alloc, &shape, rows(alloc, given)?, *count)?)
 }
 
 #[test]
 fn the_quick_fold_is_the_plain_one(rt: HostRuntime) -> Result<(), Fail> {
-    let given = [
-        (Some(2), Some(1)),
-        (None, Some(7)),
-        (Some(i64::MIN + 1), Some(3)),
-        (Some(i64::MAX), Some(4)),
-        (Some(i64::MIN), Some(5)),
-        (Some(2), None),
-        (Some(-1), Some(6)),
-        (Some(i64::MAX - 1), Some(4)),
-        (Some(2), Some(1)),
-        (Some(i64::MIN), Some(8)),
-    ];
-    let table = [
-        (Model::Duplicate, Role::Plain, 10),
-        (Model::Unique, Role::Plain, 7),
-        (Model::Aggregate, Role::Agg(AggKind::Sum), 7),
-        (Model::Aggregate, Role::Agg(AggKind::Max), 7),
-        (Model::Aggregate, Role::Agg(AggKind::ReplaceIfNotNull), 7),
-    ];
-    for (model, role, count) in table {
-        let same = agrees(rt.alloc(), model, role, &given, count)?;
-        assert!(rt; same);
+    for one in cases() {
+        assert!(rt;
+            case_agrees(rt.alloc(), one)?,
+            "{} rows of {}",
+            one.3,
+            one.2
+        );
     }
-    let none = agrees(rt.alloc(), Model::Unique, Role::Plain, &[], 0)?;
-    assert!(rt; none);
     Ok(())
 }
 
-fn texts(alloc: Global) -> Result<Rows, NoMemory> {
-    let mut rows = Rows::new(alloc);
-    rows.push(row(alloc, Cell::Text(Text::new(alloc, b"b")?), Some(1))?)?;
-    rows.push(row(
-        alloc,
-        Cell::Text(Text::new(alloc, b"a longer text than fifteen")?),
-        Some(2),
-    )?)?;
-    rows.push(row(alloc, Cell::Null, Some(3))?)?;
-    rows.push(row(alloc, Cell::Text(Text::new(alloc, b"b")?), Some(4))?)?;
-    Ok(rows)
+const TEXTS: &[TextPair] = &[
+    (Some(b"b"), 1),
+    (Some(b"a longer text than fifteen"), 2),
+    (None, 3),
+    (Some(b"b"), 4),
+];
+
+fn texts() -> &'static [TextPair] {
+    TEXTS
 }
 
 #[test]
 fn keys_of_texts_are_in_order(rt: HostRuntime) -> Result<(), Fail> {
-    let alloc = rt.alloc();
-    let shape = shape(alloc, Model::Unique, ColType::Varchar(30), Role::Plain)?.ok_or("no shape")?;
-    let quick = fold_rows(alloc, &shape, texts(alloc)?)?;
-    let plain = fold(alloc, &shape, &texts(alloc)?)?;
-    assert_eq!(rt; quick.len(), 3);
-    assert!(rt; are_same(&quick, &plain));
+    let shape = shape(rt.alloc(), Model::Unique, ColType::Varchar(30), Role::Plain)?;
+    assert!(rt; agrees(rt.alloc(), &shape, rows_of_texts(rt.alloc(), texts())?, 3)?);
     Ok(())
 }
 
 fn list(alloc: Global, of: &[Pair]) -> Result<Vec<Row>, NoMemory> {
     let mut list = Vec::new(alloc);
-    for (key, value) in of {
-        list.push(row(alloc, cell(*key), *value)?)?;
+    for one in of {
+        list.push(row(alloc, one)?)?;
     }
     Ok(list)
 }
@@ -158,32 +124,48 @@ fn gather(rows: Vec<Row>, alloc: Global) -> Result<Rows, NoMemory> {
     Ok(out)
 }
 
+// Whether a list of these rows folds to those.
+fn list_is(alloc: Global, shape: &Shape, of: &[Pair], wanted: &[Pair]) -> Result<bool, NoMemory> {
+    let folded = gather(fold_list(alloc, shape, list(alloc, of)?)?, alloc)?;
+    Ok(are_same(&folded, &rows(alloc, wanted)?))
+}
+
+const THREE: &[Pair] = &[(Some(3), Some(1)), (None, Some(2)), (Some(3), Some(-1))];
+
+fn three() -> &'static [Pair] {
+    THREE
+}
+
+const TWO: &[Pair] = &[(None, Some(2)), (Some(3), Some(-1))];
+
+fn two() -> &'static [Pair] {
+    TWO
+}
+
+const ONE: &[Pair] = &[(Some(3), Some(1))];
+
+fn one() -> &'static [Pair] {
+    ONE
+}
+
 #[test]
 fn lists_fold_as_rows_do(rt: HostRuntime) -> Result<(), Fail> {
-    let alloc = rt.alloc();
-    let shape = shape(
-        alloc,
-        Model::Aggregate,
-        ColType::BigInt,
-        Role::Agg(AggKind::Min),
-    )?
-    .ok_or("no shape")?;
-    let given = [(Some(3), Some(1)), (None, Some(2)), (Some(3), Some(-1))];
-    let folded = gather(fold_list(alloc, &shape, list(alloc, &given)?)?, alloc)?;
-    let wanted = rows(alloc, &[(None, Some(2)), (Some(3), Some(-1))])?;
-    assert!(rt; are_same(&folded, &wanted));
-    let one = list(alloc, &[(Some(3), Some(1))])?;
-    let folded = gather(fold_list(alloc, &shape, one)?, alloc)?;
-    assert_eq!(rt; folded.len(), 1);
+    let role = Role::Agg(AggKind::Min);
+    let shape = shape(rt.alloc(), Model::Aggregate, ColType::BigInt, role)?;
+    assert!(rt; list_is(rt.alloc(), &shape, three(), two())?);
+    assert!(rt; list_is(rt.alloc(), &shape, one(), one())?);
     Ok(())
+}
+
+fn count_of_none(alloc: Global, shape: &Shape) -> Result<usize, NoMemory> {
+    let none = fold_sorted(alloc, shape, Vec::new(alloc))?;
+    Ok(none.len())
 }
 
 #[test]
 fn a_sorted_list_of_no_rows_folds_to_none(rt: HostRuntime) -> Result<(), Fail> {
-    let alloc = rt.alloc();
-    let shape = shape(alloc, Model::Unique, ColType::BigInt, Role::Plain)?.ok_or("no shape")?;
-    let none = fold_sorted(alloc, &shape, Vec::new(alloc))?;
-    assert_eq!(rt; none.len(), 0);
+    let shape = shape(rt.alloc(), Model::Unique, ColType::BigInt, Role::Plain)?;
+    assert!(rt; count_of_none(rt.alloc(), &shape)? == 0);
     Ok(())
 }
 
@@ -212,7 +194,7 @@ fn told<R: SortedRows, L: Ledger>(
 #[test]
 fn rows_are_looked_at_one_by_one_also_where_they_are_shared(rt: HostRuntime) -> Result<(), Fail> {
     let alloc = rt.alloc();
-    let given = rows(alloc, &[(None, Some(2)), (Some(3), Some(-1))])?;
+    let given = rows(alloc, two())?;
     let plain = told::<Rows, Brand>(alloc, &given, Blank::new(1))?;
     assert_eq!(rt; plain.as_slice(), b"\\N;2;3;-1;".as_slice());
     let shared = Arc::new(alloc, given)?;
@@ -221,49 +203,53 @@ fn rows_are_looked_at_one_by_one_also_where_they_are_shared(rt: HostRuntime) -> 
     Ok(())
 }
 
-// Rows with one text each.
-fn rows_of_texts(alloc: Global, texts: &[&[u8]]) -> Result<Rows, NoMemory> {
-    let mut out = Rows::new(alloc);
-    for text in texts {
-        out.push(row(alloc, Cell::Text(Text::new(alloc, text)?), Some(1))?)?;
-    }
-    Ok(out)
+const MIXED: &[TextPair] = &[
+    (Some(b"abcdefgh"), 1),
+    (Some(b"abcdefg"), 1),
+    (Some(b""), 1),
+    (Some(b"abcdefga"), 1),
+    (Some(b"\xff\x01"), 1),
+    (Some(b"b"), 1),
+    (Some(b"\xff"), 1),
+    (Some(b"abcdef"), 1),
+    (Some(b"\xc3\xa9"), 1),
+    (Some(b"\xff\xff"), 1),
+    (Some(b"abcdefg"), 1),
+    (Some(b"\x00"), 1),
+    (Some(b"\xfe\xff"), 1),
+];
+
+fn mixed() -> &'static [TextPair] {
+    MIXED
+}
+
+const SORTED: &[TextPair] = &[
+    (Some(b""), 1),
+    (Some(b"\x00"), 1),
+    (Some(b"abcdef"), 1),
+    (Some(b"abcdefg"), 1),
+    (Some(b"abcdefga"), 1),
+    (Some(b"abcdefgh"), 1),
+    (Some(b"b"), 1),
+    (Some(b"\xc3\xa9"), 1),
+    (Some(b"\xfe\xff"), 1),
+    (Some(b"\xff"), 1),
+    (Some(b"\xff\x01"), 1),
+    (Some(b"\xff\xff"), 1),
+];
+
+fn sorted() -> &'static [TextPair] {
+    SORTED
+}
+
+fn texts_fold(alloc: Global, of: &[TextPair], wanted: &[TextPair]) -> Result<bool, Fail> {
+    let shape = shape(alloc, Model::Unique, ColType::Varchar(9), Role::Plain)?;
+    let wanted = rows_of_texts(alloc, wanted)?;
+    Ok(quick_is(alloc, &shape, rows_of_texts(alloc, of)?, &wanted)?)
 }
 
 #[test]
 fn texts_are_in_order_byte_by_byte(rt: HostRuntime) -> Result<(), Fail> {
-    let alloc = rt.alloc();
-    let given: [&[u8]; 13] = [
-        b"abcdefgh",
-        b"abcdefg",
-        b"",
-        b"abcdefga",
-        b"\xff\x01",
-        b"b",
-        b"\xff",
-        b"abcdef",
-        b"\xc3\xa9",
-        b"\xff\xff",
-        b"abcdefg",
-        b"\x00",
-        b"\xfe\xff",
-    ];
-    let wanted: [&[u8]; 12] = [
-        b"",
-        b"\x00",
-        b"abcdef",
-        b"abcdefg",
-        b"abcdefga",
-        b"abcdefgh",
-        b"b",
-        b"\xc3\xa9",
-        b"\xfe\xff",
-        b"\xff",
-        b"\xff\x01",
-        b"\xff\xff",
-    ];
-    let shape = shape(alloc, Model::Unique, ColType::Varchar(9), Role::Plain)?.ok_or("no shape")?;
-    let quick = fold_rows(alloc, &shape, rows_of_texts(alloc, &given)?)?;
-    assert!(rt; are_same(&quick, &rows_of_texts(alloc, &wanted)?));
+    assert!(rt; texts_fold(rt.alloc(), mixed(), sorted())?);
     Ok(())
 }

@@ -14,4 +14,6 @@ mod plain_folds;
 #[cfg(test)]
 mod shapes;
 #[cfg(test)]
+mod tables;
+#[cfg(test)]
 mod values;

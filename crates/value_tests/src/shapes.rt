@@ -2,6 +2,7 @@
 use dl_values::{AggKind, Cell, ColType, Name, NoMemory};
 use schema_models::{ColumnDef, Model, Role, Shape, ShapeError, is_name};
 use std::alloc::Global;
+use std::process::Abort;
 use std::test::Fail;
 
 // A column by its name, type, whether it is nullable, its role, and its default, if it has one.
@@ -30,12 +31,13 @@ const VALUE: Column = Column {
     default: None,
 };
 
-fn sum() -> Column {
-    Column {
-        role: Role::Agg(AggKind::Sum),
-        ..VALUE
-    }
-}
+const SUM: Column = Column {
+    name: b'v',
+    kind: ColType::BigInt,
+    nullable: true,
+    role: Role::Agg(AggKind::Sum),
+    default: None,
+};
 
 fn cell(value: Option<i64>) -> Cell {
     match value {
@@ -44,7 +46,7 @@ fn cell(value: Option<i64>) -> Cell {
     }
 }
 
-fn definition(alloc: Global, of: Column) -> Result<ColumnDef, NoMemory> {
+fn definition(alloc: Global, of: &Column) -> Result<ColumnDef, NoMemory> {
     Ok(ColumnDef {
         name: Name::new(alloc, &[of.name])?,
         kind: of.kind,
@@ -54,155 +56,199 @@ fn definition(alloc: Global, of: Column) -> Result<ColumnDef, NoMemory> {
     })
 }
 
-fn build(
-    alloc: Global,
-    model: Model,
-    of: &[Column],
-) -> Result<Result<Shape, ShapeError>, NoMemory> {
+fn definitions(alloc: Global, of: &[Column]) -> Result<Vec<ColumnDef>, NoMemory> {
     let mut columns = Vec::new(alloc);
     for one in of {
-        columns.push(definition(alloc, *one)?)?;
+        columns.push(definition(alloc, one)?)?;
     }
-    Ok(Shape::build(model, columns))
+    Ok(columns)
 }
 
-fn first_fault(alloc: Global, model: Model, of: &[Column]) -> Result<Option<ShapeError>, NoMemory> {
-    match build(alloc, model, of)? {
-        Ok(_) => Ok(None),
-        Err(fault) => Ok(Some(fault)),
-    }
+// A model, columns, and the first thing that is wrong with them.
+type Case = (Model, &'static [Column], Option<ShapeError>);
+
+fn first_fault(alloc: Global, of: &Case) -> Result<Option<ShapeError>, NoMemory> {
+    Ok(Shape::build(of.0, definitions(alloc, of.1)?).err())
 }
 
-#[test]
-fn a_pair_of_columns_is_refused_by_its_first_fault(rt: HostRuntime) -> Result<(), Fail> {
-    let table = [
-        (Model::Unique, KEY, VALUE, None),
-        (Model::Duplicate, KEY, VALUE, None),
-        (Model::Aggregate, KEY, sum(), None),
-        (
-            Model::Unique,
-            Column { name: b'1', ..KEY },
-            KEY,
-            Some(ShapeError::BadName { column: 0 }),
-        ),
-        (
-            Model::Unique,
+fn are_refused(rt: &impl Abort, alloc: Global, of: &[Case]) -> Result<(), Fail> {
+    for (place, one) in of.iter().enumerate() {
+        assert!(rt; first_fault(alloc, one)? == one.2, "case {place}");
+    }
+    Ok(())
+}
+
+const PAIRS: &[Case] = &[
+    (Model::Unique, &[KEY, VALUE], None),
+    (Model::Duplicate, &[KEY, VALUE], None),
+    (Model::Aggregate, &[KEY, SUM], None),
+    (
+        Model::Unique,
+        &[Column { name: b'1', ..KEY }, KEY],
+        Some(ShapeError::BadName { column: 0 }),
+    ),
+    (
+        Model::Unique,
+        &[
             KEY,
             Column {
                 name: b'k',
                 ..VALUE
             },
-            Some(ShapeError::DoubleName { column: 1 }),
-        ),
-        (
-            Model::Unique,
+        ],
+        Some(ShapeError::DoubleName { column: 1 }),
+    ),
+    (
+        Model::Unique,
+        &[
             KEY,
             Column {
                 kind: ColType::Varchar(0),
                 ..VALUE
             },
-            Some(ShapeError::BadType { column: 1 }),
-        ),
-        (
-            Model::Unique,
-            VALUE,
-            KEY,
-            Some(ShapeError::NoKey { column: 0 }),
-        ),
-        (
-            Model::Aggregate,
-            KEY,
-            VALUE,
-            Some(ShapeError::BadAgg { column: 1 }),
-        ),
-        (
-            Model::Unique,
-            KEY,
-            sum(),
-            Some(ShapeError::BadAgg { column: 1 }),
-        ),
-        (
-            Model::Aggregate,
+        ],
+        Some(ShapeError::BadType { column: 1 }),
+    ),
+    (
+        Model::Unique,
+        &[VALUE, KEY],
+        Some(ShapeError::NoKey { column: 0 }),
+    ),
+    (
+        Model::Aggregate,
+        &[KEY, VALUE],
+        Some(ShapeError::BadAgg { column: 1 }),
+    ),
+    (
+        Model::Unique,
+        &[KEY, SUM],
+        Some(ShapeError::BadAgg { column: 1 }),
+    ),
+    (
+        Model::Aggregate,
+        &[
             KEY,
             Column {
                 kind: ColType::Int,
-                ..sum()
+                ..SUM
             },
-            Some(ShapeError::BadAgg { column: 1 }),
-        ),
-        (
-            Model::Unique,
+        ],
+        Some(ShapeError::BadAgg { column: 1 }),
+    ),
+    (
+        Model::Unique,
+        &[
             KEY,
             Column {
                 nullable: false,
                 default: Some(None),
                 ..VALUE
             },
-            Some(ShapeError::BadDefault { column: 1 }),
-        ),
-        (
-            Model::Unique,
+        ],
+        Some(ShapeError::BadDefault { column: 1 }),
+    ),
+    (
+        Model::Unique,
+        &[
             Column {
                 kind: ColType::TinyInt,
                 default: Some(Some(128)),
                 ..KEY
             },
             VALUE,
-            Some(ShapeError::BadDefault { column: 0 }),
-        ),
-    ];
-    for (model, first, second, wanted) in table {
-        let fault = first_fault(rt.alloc(), model, &[first, second])?;
-        assert_eq!(rt; fault, wanted);
-    }
-    Ok(())
+        ],
+        Some(ShapeError::BadDefault { column: 0 }),
+    ),
+];
+
+fn pairs() -> &'static [Case] {
+    PAIRS
+}
+
+#[test]
+fn a_pair_of_columns_is_refused_by_its_first_fault(rt: HostRuntime) -> Result<(), Fail> {
+    are_refused(&rt, rt.alloc(), pairs())
+}
+
+const NUMBERS: &[Case] = &[
+    (Model::Unique, &[], Some(ShapeError::NoKey { column: 0 })),
+    (
+        Model::Unique,
+        &[KEY; 65],
+        Some(ShapeError::TooManyColumns { limit: 64 }),
+    ),
+    (
+        Model::Unique,
+        &[KEY, VALUE, Column { name: b'l', ..KEY }],
+        Some(ShapeError::KeyAfterValue { column: 2 }),
+    ),
+];
+
+fn numbers() -> &'static [Case] {
+    NUMBERS
 }
 
 #[test]
 fn the_number_and_the_order_of_columns_are_looked_at(rt: HostRuntime) -> Result<(), Fail> {
-    let alloc = rt.alloc();
-    let other = Column { name: b'l', ..KEY };
-    let many = [KEY; 65];
-    assert_eq!(rt;
-        first_fault(alloc, Model::Unique, &[])?,
-        Some(ShapeError::NoKey { column: 0 })
-    );
-    assert_eq!(rt;
-        first_fault(alloc, Model::Unique, &many)?,
-        Some(ShapeError::TooManyColumns { limit: 64 })
-    );
-    assert_eq!(rt;
-        first_fault(alloc, Model::Unique, &[KEY, VALUE, other])?,
-        Some(ShapeError::KeyAfterValue { column: 2 })
-    );
-    Ok(())
+    are_refused(&rt, rt.alloc(), numbers())
+}
+
+const NAMES: &[(&[u8], bool)] = &[
+    (b"k", true),
+    (b"_1_Z", true),
+    (b"", false),
+    (b"1a", false),
+    (b"a-b", false),
+    (&[b'a'; 64], true),
+    (&[b'a'; 65], false),
+];
+
+fn names() -> &'static [(&'static [u8], bool)] {
+    NAMES
 }
 
 #[test]
 fn names_begin_with_a_letter_or_an_underscore(rt: HostRuntime) {
-    assert!(rt; is_name(b"k"));
-    assert!(rt; is_name(b"_1_Z"));
-    assert!(rt; !is_name(b""));
-    assert!(rt; !is_name(b"1a"));
-    assert!(rt; !is_name(b"a-b"));
-    assert!(rt; is_name(&[b'a'; 64]));
-    assert!(rt; !is_name(&[b'a'; 65]));
+    for (place, (name, wanted)) in names().iter().enumerate() {
+        assert!(rt; is_name(name) == *wanted, "name {place}");
+    }
+}
+
+const TWO: &[Column] = &[
+    KEY,
+    Column {
+        nullable: false,
+        default: Some(Some(7)),
+        ..VALUE
+    },
+];
+
+fn two() -> &'static [Column] {
+    TWO
+}
+
+fn copied(alloc: Global, of: &[Column]) -> Result<Shape, Fail> {
+    match &Shape::build(Model::Unique, definitions(alloc, of)?) {
+        Ok(shape) => Ok(shape.copy(alloc)?),
+        Err(_) => Err("no shape".into()),
+    }
+}
+
+fn is_of_two(shape: &Shape) -> bool {
+    match shape.columns() {
+        [_, value] => {
+            shape.model() == Model::Unique
+                && shape.keys() == 1
+                && !value.nullable
+                && value.default.is_some()
+        }
+        _ => false,
+    }
 }
 
 #[test]
 fn a_copied_shape_has_the_same_columns(rt: HostRuntime) -> Result<(), Fail> {
-    let alloc = rt.alloc();
-    let value = Column {
-        nullable: false,
-        default: Some(Some(7)),
-        ..VALUE
-    };
-    let shape = build(alloc, Model::Unique, &[KEY, value])?.map_err(|_| "a shape")?;
-    let copy = shape.copy(alloc)?;
-    assert_eq!(rt; copy.model(), Model::Unique);
-    assert_eq!(rt; copy.keys(), 1);
-    assert_eq!(rt; copy.columns().len(), 2);
-    assert!(rt; !copy.columns()[1].nullable);
-    assert!(rt; copy.columns()[1].default.is_some());
+    let copy = copied(rt.alloc(), two())?;
+    assert!(rt; is_of_two(&copy));
     Ok(())
 }
