@@ -69,6 +69,7 @@ fn of_none(function: AggFn) -> Cell
 }
 
 // Adds a number to a sum or a count. The most frequent case takes no cell away.
+#[inline(always)]
 fn add_number(kept: &mut Cell, more: i64)
     ensures { kept.new ≡ merged_cell merge.Sum kept.old (cell.Int more) }
 {
