@@ -57,6 +57,7 @@ fn copy_merged(alloc: Global, cell: MergedCell) -> Result<Cell, NoMemory>
 }
 
 // An equal cell of its own of the cell of a row at a place.
+#[inline(always)]
 pub fn copy_at(alloc: Global, row: &[MergedCell], place: Option<usize>) -> Result<Cell, NoMemory>
     ensures { IfOk result (λ c. c ≡ at.cell_in (row_of row.now) place) }
 {

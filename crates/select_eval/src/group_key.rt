@@ -71,6 +71,7 @@ impl GroupKey {
     }
 
     // Becomes the key of a row, whose cells stand at these places.
+    #[inline(always)]
     pub fn refill(
         &mut self,
         alloc: Global,

@@ -76,6 +76,7 @@ impl Grouping {
     }
 
     // Puts a row into the group of its key. The key is made in the room of another one.
+    #[inline(always)]
     pub fn put(
         &self,
         alloc: Global,

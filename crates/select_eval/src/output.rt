@@ -102,6 +102,7 @@ fn merge_at(
 }
 
 // Puts the cell of a row into an aggregate.
+#[inline(always)]
 fn add_cell(
     alloc: Global,
     function: AggFn,
@@ -142,6 +143,7 @@ impl Output {
     }
 
     // Puts a row into the cell.
+    #[inline(always)]
     pub fn add(self, alloc: Global, kept: &mut Cell, row: &[MergedCell]) -> Result<(), NoMemory>
         ensures { OnOk result (kept.new ≡ outputs.more self kept.old (row_of row.now)) }
     {
