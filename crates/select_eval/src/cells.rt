@@ -44,17 +44,20 @@ pub fn number_at(row: &[MergedCell], place: Option<usize>) -> Option<i64>
     }
 }
 
-// An equal cell of its own.
+// An equal cell of its own. The most frequent case is made in place.
+#[inline(always)]
 fn copy_merged(alloc: Global, cell: MergedCell) -> Result<Cell, NoMemory>
     ensures { IfOk result (λ c. c ≡ cell_of cell.entry) }
 {
     match cell {
+        MergedCell::Kept(Cell::Int(number)) => Ok(Cell::Int(*number)),
         MergedCell::Kept(cell) => copy_cell(alloc, cell),
         MergedCell::Sum(sum) => Ok(Cell::Int(sum)),
     }
 }
 
 // An equal cell of its own of the cell of a row at a place.
+#[inline(always)]
 pub fn copy_at(alloc: Global, row: &[MergedCell], place: Option<usize>) -> Result<Cell, NoMemory>
     ensures { IfOk result (λ c. c ≡ at.cell_in (row_of row.now) place) }
 {

@@ -29,6 +29,7 @@ impl Condition {
 }
 
 // Whether a row passes all tests.
+#[inline(always)]
 pub fn all_hold(list: &[Condition], row: &[MergedCell]) -> bool
     ensures { result ≡ list_all (conditions.holds (row_of row.now)) list.now }
 {

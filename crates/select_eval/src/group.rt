@@ -37,6 +37,7 @@ impl Group {
     }
 
     // Puts a row into it.
+    #[inline(always)]
     pub fn add(
         &mut self,
         alloc: Global,

@@ -1,5 +1,5 @@
 // The cells by which rows are grouped.
-ghost use Rattle.std.specs.Prelude.{◌≡◌, [], IfOk};
+ghost use Rattle.std.specs.Prelude.{◌≡◌, [], IfOk, OnOk};
 ghost use Rattle.std.proofs.Common.{refl};
 ghost use Rattle.std.specs.Cmp.{eq_by_cmp_equiv, partial_equiv_from_equiv, partial_order_from_total};
 ghost use Rattle.std.specs.Ordering.{as_partial_cmp, eq_by_cmp};
@@ -33,6 +33,23 @@ impl Model for GroupKey {
     ghost invariant = { λ k. k.prefix ≡ row_prefix k.cells.items };
 }
 
+// Puts the cells of a row at these places in the room of others.
+#[inline(always)]
+fn fill(
+    alloc: Global,
+    cells: &mut Vec<Cell>,
+    places: &[Option<usize>],
+    row: &[MergedCell],
+) -> Result<(), NoMemory>
+    ensures { OnOk result (cells.new.items ≡ cells_in places.now (row_of row.now)) }
+{
+    cells.clear();
+    for place in places {
+        cells.push(copy_at(alloc, row, *place)?)?;
+    }
+    Ok(())
+}
+
 impl GroupKey {
     ghost use Rattle.dl_values.specs.Order.{row_cmp};
 
@@ -53,21 +70,19 @@ impl GroupKey {
         GroupKey::of_cells(Vec::new(alloc))
     }
 
-    // The key of a row, whose cells stand at these places, in the room of this one.
+    // Becomes the key of a row, whose cells stand at these places.
+    #[inline(always)]
     pub fn refill(
-        self,
+        &mut self,
         alloc: Global,
         places: &[Option<usize>],
         row: &[MergedCell],
-    ) -> Result<GroupKey, NoMemory>
-        ensures { IfOk result (λ k. k ≡ cells_in places.now (row_of row.now)) }
+    ) -> Result<(), NoMemory>
+        ensures { OnOk result (self.new ≡ cells_in places.now (row_of row.now)) }
     {
-        let mut cells = self.cells;
-        cells.clear();
-        for place in places {
-            cells.push(copy_at(alloc, row, *place)?)?;
-        }
-        Ok(GroupKey::of_cells(cells))
+        let filled = fill(alloc, &mut self.cells, places, row);
+        self.prefix = prefix_of_view(&RowView::of_cells(self.cells.as_slice()));
+        filled
     }
 
     // An equal key of its own.

@@ -105,7 +105,7 @@ fn groups_in<'a, R: SortedRows, L: Ledger>(
     let mut all = BTreeMap::new(alloc);
     let mut key = GroupKey::new(alloc);
     'rows: while next_passing(merge, conditions, steps) {
-        key = grouping.put(alloc, &mut all, key, merge.present())?;
+        grouping.put(alloc, &mut all, &mut key, merge.present())?;
     }
     Ok(all)
 }

@@ -75,25 +75,26 @@ impl Grouping {
         self.outputs.as_slice()
     }
 
-    // Puts a row into the group of its key. The key is made in the room of another one, and given back.
+    // Puts a row into the group of its key. The key is made in the room of another one.
+    #[inline(always)]
     pub fn put(
         &self,
         alloc: Global,
         all: &mut BTreeMap<GroupKey, Group>,
-        room: GroupKey,
+        key: &mut GroupKey,
         row: &[MergedCell],
-    ) -> Result<GroupKey, NoMemory>
+    ) -> Result<(), NoMemory>
         ensures { OnOk result (all.new.entries ≡ groups.put self.now all.old.entries (row_of row.now)) }
     {
-        let key = room.refill(alloc, self.places.as_slice(), row)?;
-        if let Some(group) = all.get_mut(&key) {
+        key.refill(alloc, self.places.as_slice(), row)?;
+        if let Some(group) = all.get_mut(&*key) {
             group.add(alloc, self.outputs.as_slice(), row)?;
-            return Ok(key);
+            return Ok(());
         }
         let mut group = Group::begin(alloc, self.outputs.as_slice(), key.cells())?;
         group.add(alloc, self.outputs.as_slice(), row)?;
         all.insert(key.copy(alloc)?, group)?;
-        Ok(key)
+        Ok(())
     }
 }
 

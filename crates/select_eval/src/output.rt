@@ -69,6 +69,7 @@ fn of_none(function: AggFn) -> Cell
 }
 
 // Adds a number to a sum or a count. The most frequent case takes no cell away.
+#[inline(always)]
 fn add_number(kept: &mut Cell, more: i64)
     ensures { kept.new ≡ merged_cell merge.Sum kept.old (cell.Int more) }
 {
@@ -101,6 +102,7 @@ fn merge_at(
 }
 
 // Puts the cell of a row into an aggregate.
+#[inline(always)]
 fn add_cell(
     alloc: Global,
     function: AggFn,
@@ -141,6 +143,7 @@ impl Output {
     }
 
     // Puts a row into the cell.
+    #[inline(always)]
     pub fn add(self, alloc: Global, kept: &mut Cell, row: &[MergedCell]) -> Result<(), NoMemory>
         ensures { OnOk result (kept.new ≡ outputs.more self kept.old (row_of row.now)) }
     {

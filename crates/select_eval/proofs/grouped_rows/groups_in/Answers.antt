@@ -8,7 +8,7 @@ rows-preserved g c =
     let by = c.args.grouping.now in
     let rest = still_passing c.args.conditions.now c.next_passing.new.merge in
     record {
-      so_far = ap (λ es. put_all by es rest) (c.in_ok-key.ensures ∙ ap (put by c.rows.all.entries) c.present.ensures)
+      so_far = ap (λ es. put_all by es rest) (c.in_ok-put.ensures ∙ ap (put by c.rows.all.entries) c.present.ensures)
           ∙ ap (put_all by c.rows.all.entries) (sym c.rows-test.ensures.next) ∙ c.rows.invariant.so_far;
       counted = c.rows-test.ensures.counted ∙ c.rows.invariant.counted;
     }
