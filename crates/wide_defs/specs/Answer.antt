@@ -45,7 +45,7 @@ use Rattle.wide_defs.specs.declared.show_what.ShowWhat.{ShowWhat}
 use Rattle.wide_defs.specs.Reports.{Reports, report, shown_refusal}
 use Rattle.wide_defs.specs.Alters.{refused_alter, job_of_kind, job_state_of, may_give, given_state}
 
--- at most so many databases, and so many tables in all
+-- at most so many databases, so many tables in all, and so many kept jobs
 abbrev pub most : ℕ
 most = 1000
 

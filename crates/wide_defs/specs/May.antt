@@ -1,4 +1,4 @@
--- What a seat may give: a load is submitted as the plan of its Begin says, and built from its rows as that plan says.
+-- What a seat may give: a load is submitted as the plan of its Begin says, and built from its rows as that plan says; a piece is given of a task that was taken, and is what comes of it.
 use Rattle.std.specs.Prelude.{◌≡◌, ℕ, List, [], ◌∷◌, Some, None, ◌⊎◌, map}
 use Rattle.std.specs.List.{AllByRecursion, flat_map}
 use Rattle.dl_values.specs.declared.cell.Cell.{Cell}

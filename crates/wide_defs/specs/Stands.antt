@@ -153,7 +153,7 @@ pub record StandsAlters (v : View) (Es : List Event) : Type 0 where
   pub last_job : v.last_job ≡ last_job_of Es
   pub tasks : v.tasks ≡ tasks_of Es
 
--- how often the service was opened again, and whether it has to be
+-- how often the service was opened again, how many tasks were taken, and whether it has to be opened
 pub record StandsJobs (v : View) (H : List Entry) : Type 0 where
   pub live : v.live ≡ live_of (happened H)
   pub taken : v.taken ≡ taken_of (happened H)

@@ -385,28 +385,3 @@ begins_by Es (command.Show db what) r a b =
 begins_by Es command.Restart r a b = absurd (let h = all_not_begun [] tt (λ r. r ≡ reply.Done) r a b in let z : is_rare r ≡ false = ap is_rare h in cc (z, b))
 begins_by Es (command.Give piece at) r a b =
     absurd (let h = all_not_begun (refusals Es (command.Give piece at)) (give_any NotBegun (λ n. refl) (λ s. refl) piece (live_of Es) (jobs_of Es) (tasks_of Es)) (λ r. r ≡ reply.Given piece.job (given_state piece.result)) r a b in let z : is_rare r ≡ false = ap is_rare h in cc (z, b))
-
--- That a record is damaged answers nothing.
-begins_never : (Es : List Event) (c : Command) (seq : ℕ) → BeginsBy Es c (reply.BadJournal seq) → ⊥
-begins_never Es (command.Begin db table label two_phase at) seq (t, found, is) = cc
-begins_never Es (command.CreateDb name if_not_exists) seq h = h
-begins_never Es (command.CreateTable db table def if_not_exists) seq h = h
-begins_never Es (command.Submit txn built at) seq h = h
-begins_never Es (command.Publish at) seq h = h
-begins_never Es (command.Abort db txn at) seq h = h
-begins_never Es (command.Snapshot db table query) seq h = h
-begins_never Es (command.DropTable db table if_exists at) seq h = h
-begins_never Es (command.AddPartition db table part) seq h = h
-begins_never Es (command.Commit db txn at) seq h = h
-begins_never Es (command.Sweep at) seq h = h
-begins_never Es (command.AddAlter db table def at) seq h = h
-begins_never Es (command.CancelAlter db table kind at) seq h = h
-begins_never Es (command.Advance at) seq h = h
-begins_never Es (command.Give piece at) seq h = h
-begins_never Es (command.Show db what) seq h = h
-begins_never Es command.Take seq h = h
-begins_never Es command.Restart seq h = h
-
-pub never_bad : (Es : List Event) (c : Command) (r : Reply) (seq : ℕ) → Answer Es c r ⊎ (r ≡ reply.KeeperFault) → r ≡ reply.BadJournal seq → ⊥
-never_bad Es c r seq (inl a) is = begins_never Es c seq (subst (BeginsBy Es c) is (begins_by Es c r a (ap is_rare is)))
-never_bad Es c r seq (inr f) is = cc (f, is)

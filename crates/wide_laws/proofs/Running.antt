@@ -397,6 +397,3 @@ base_to (Some t) base lists h = (h.base_is, h.inside)
 
 pub bases_are : AdmittedRollupsJoin → (H : List Entry) → Legal H → (table : ℕ) → IsBase (table_at table (tables_of (happened H))) (base_of (happened H) table)
 bases_are law H l table = base_to (table_at table (tables_of (happened H))) (base_of (happened H) table) (lists_of (happened H) table) ((always_whole law H l).runs.lists table)
-
-pub chains : AdmittedRollupsJoin → (H : List Entry) → Legal H → (table : ℕ) (w : Place) → ChainsBy (table_at table (tables_of (happened H))) w (lists_of (happened H) table 0 w) (version_of (happened H) table w.part)
-chains law H l = (always_whole law H l).runs.chained

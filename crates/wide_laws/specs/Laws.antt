@@ -16,7 +16,7 @@ use Rattle.wide_defs.specs.declared.catalogue.Table.{Table}
 use Rattle.wide_defs.specs.declared.txn.Txn.{Txn}
 use Rattle.schema_models.specs.ShapeView.{ShapeView}
 use Rattle.wide_defs.specs.Catalogue.{table_at, tables_of}
-use Rattle.wide_defs.specs.Stored.{base_of, fixed_of, since_of, source_of, whole_list, StoredList, indexed, rows_in, touches}
+use Rattle.wide_defs.specs.Stored.{base_of, fixed_of, since_of, source_of, whole_list, StoredList, indexed, rows_in, touches, version_of}
 use Rattle.row_map.specs.declared.map.RowMap.{RowMap}
 use Rattle.load_targets.specs.declared.plan.Target.{Target}
 use Rattle.wide_defs.specs.Indexes.{Index, change_maps, index_at, new_index, rollup_maps}
@@ -86,6 +86,20 @@ PartsFold c t base fixed source since = (index : ℕ) (w : Place) → IfSome (ne
 
 abbrev pub RunsWell : List Event → JobInfo → Type 0
 RunsWell Es j = is_running j.state ≡ true → IfSome (table_at j.table (tables_of Es)) (λ (t : Table). PartsFold j.change t (base_of Es j.table) (fixed_of Es j.table) (source_of Es j.table) (since_of Es j.table))
+
+-- A list holds versions above the fixed one, up to the visible one.
+pub record IsAhead (fixed version : ℕ) (l : StoredList) : Type 0 where
+  pub above : fixed < l.first
+  pub rising : l.first ≤ l.last
+  pub within : l.last ≤ version
+
+-- So does each list since the job went to run, and the fixed version is not above the visible one.
+pub record Ahead (fixed : ℕ) (lists : List StoredList) (version : ℕ) : Type 0 where
+  pub kept : fixed ≤ version
+  pub since : Each (IsAhead fixed version) lists
+
+abbrev pub RunsAhead : List Event → JobInfo → Type 0
+RunsAhead Es j = is_running j.state ≡ true → (index : ℕ) (w : Place) → Ahead (fixed_of Es j.table w.part) (since_of Es j.table index w) (version_of Es j.table w.part)
 
 -- the base is folded, and inside the layout
 abbrev pub IsBase : Option Table → List (List Cell) → Type 0

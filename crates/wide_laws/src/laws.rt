@@ -28,7 +28,7 @@ ghost use Rattle.wide_defs.specs.May.{Carries, IsBuilt, May};
 ghost use Rattle.wide_defs.specs.Stands.{IsShadow, StandsOpen, View};
 ghost use Rattle.wide_defs.specs.Stored.{StoredList, base_of, lists_of, set_at, set_for, sets_of, stored_of, version_of};
 ghost use Rattle.wide_defs.specs.Transactions.{places_of, txns_of};
-ghost use Rattle.wide_laws.specs.Laws.{ChainsBy, CountsLoads, CountsOnce, EarlierIsAborted, HasShape, IdsAscend, IndexFoldsTo, IsBase, IsOwed, IsPlannedJob, IsSettled, JobsAscend, NeverBad, RunsWell, NumbersAscend, TabletFoldsTo, target_maps, visible_of};
+ghost use Rattle.wide_laws.specs.Laws.{ChainsBy, CountsLoads, CountsOnce, EarlierIsAborted, HasShape, IdsAscend, IndexFoldsTo, IsBase, IsOwed, IsPlannedJob, IsSettled, JobsAscend, NeverBad, RunsAhead, RunsWell, NumbersAscend, TabletFoldsTo, target_maps, visible_of};
 ghost use Rattle.wide_laws.specs.Tidy.{Distinct, Each, HasHome, LiveApart, Pairs, PlacesFit, Tells, published_of};
 
 /// The records of records are the records.
@@ -90,11 +90,12 @@ pub fn stored_lists_fold_to_the_index()
     ensures base { AdmittedRollupsJoin → (H : List Entry) → Legal H → (table : ℕ) → IsBase (table_at table (tables_of (happened H))) (base_of (happened H) table) }
 {}
 
-/// While a job runs, every load that has not ended is at or above its watershed; and the work of a task and the lists of
-/// the loads since fold to what the new index makes of the base.
+/// While a job runs, every load that has not ended is at or above its watershed; the work of a task and the lists of the loads
+/// since fold to what the new index makes of the base; and these lists have versions above those that the work holds.
 pub fn conversion_meets_double_writes()
     ensures watershed { (H : List Entry) → Legal H → Each (IsSettled (txns_of (happened H))) (jobs_of (happened H)) }
     ensures folds { AdmittedRollupsJoin → (H : List Entry) → Legal H → Each (RunsWell (happened H)) (jobs_of (happened H)) }
+    ensures ahead { (H : List Entry) → Legal H → Each (RunsAhead (happened H)) (jobs_of (happened H)) }
 {}
 
 /// What a front does to the lists of a shadow, tablet by tablet: where its job goes to run, they hold no version above the
