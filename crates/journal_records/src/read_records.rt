@@ -1,0 +1,137 @@
+// Reading records.
+ghost use Rattle.std.specs.Prelude.{◌≡◌, Ok};
+ghost use Rattle.journal_records.specs.Reading.{Gives, load_at, commit_at, job_waiting_at, later_at, fields_at, record_at, record_of};
+
+use crate::choices::{after_tag, flag};
+use crate::load::Load;
+use crate::read_fields::{job, name, number64, pair};
+use crate::read_rows::rows;
+use crate::record::Record;
+use crate::stop::Stop;
+use std::alloc::Global;
+
+#[tactic(auto, unfolding(crate::specs::Reading::load_at))]
+fn load(alloc: Global, bytes: &[u8]) -> Result<(Load, &[u8]), Stop>
+    ensures { Gives (λ x. (x.0, x.1.now)) result (load_at bytes.now) }
+{
+    let (txn, rest) = number64(bytes)?;
+    let (table, rest) = number64(rest)?;
+    let (label, rest) = name(alloc, rest)?;
+    let (at, rest) = number64(rest)?;
+    let (two_phase, rest) = flag(rest)?;
+    let (schema, rest) = number64(rest)?;
+    let (cancelled, rest) = job(rest)?;
+    let (rows, rest) = rows(alloc, rest)?;
+    let load = Load {
+        txn,
+        table,
+        label,
+        at,
+        two_phase,
+        schema,
+        cancelled,
+        rows,
+    };
+    Ok((load, rest))
+}
+
+#[tactic(auto, unfolding(crate::specs::Reading::commit_at))]
+fn commit(bytes: &[u8]) -> Result<(Record, &[u8]), Stop>
+    ensures { Gives (λ x. (x.0, x.1.now)) result (commit_at bytes.now) }
+{
+    let (txn, at, rest) = pair(bytes)?;
+    let (cancelled, rest) = job(rest)?;
+    Ok((Record::Commit { txn, at, cancelled }, rest))
+}
+
+#[tactic(auto, unfolding(crate::specs::Reading::job_waiting_at))]
+fn job_waiting(bytes: &[u8]) -> Result<(Record, &[u8]), Stop>
+    ensures { Gives (λ x. (x.0, x.1.now)) result (job_waiting_at bytes.now) }
+{
+    let (job, watershed, rest) = pair(bytes)?;
+    let (upto, rest) = number64(rest)?;
+    Ok((
+        Record::JobWaiting {
+            job,
+            watershed,
+            upto,
+        },
+        rest,
+    ))
+}
+
+// The kinds from 8 on.
+#[tactic(auto, unfolding(crate::specs::Reading::later_at))]
+fn later(bytes: &[u8]) -> Result<(Record, &[u8]), Stop>
+    ensures { Gives (λ x. (x.0, x.1.now)) result (later_at bytes.now) }
+{
+    if let Some(rest) = after_tag(bytes, 8) {
+        let (txn, at, rest) = pair(rest)?;
+        return Ok((Record::Abort { txn, at }, rest));
+    }
+    if let Some(rest) = after_tag(bytes, 9) {
+        let (txn, at, rest) = pair(rest)?;
+        return Ok((Record::Publish { txn, at }, rest));
+    }
+    if let Some(rest) = after_tag(bytes, 11) {
+        return job_waiting(rest);
+    }
+    if let Some(rest) = after_tag(bytes, 12) {
+        let (job, at, rest) = pair(rest)?;
+        return Ok((Record::JobFinished { job, at }, rest));
+    }
+    if let Some(rest) = after_tag(bytes, 14) {
+        let (at, rest) = number64(rest)?;
+        return Ok((Record::Sweep { at }, rest));
+    }
+    Err(Stop::Left(bytes.len()))
+}
+
+// The byte of the kind, and the fields.
+#[tactic(auto, unfolding(crate::specs::Reading::fields_at))]
+fn fields(alloc: Global, bytes: &[u8]) -> Result<(Record, &[u8]), Stop>
+    ensures { Gives (λ x. (x.0, x.1.now)) result (fields_at bytes.now) }
+{
+    if let Some(rest) = after_tag(bytes, 1) {
+        let (name, rest) = name(alloc, rest)?;
+        return Ok((Record::CreateDb(name), rest));
+    }
+    if let Some(rest) = after_tag(bytes, 3) {
+        let (table, at, rest) = pair(rest)?;
+        return Ok((Record::DropTable { table, at }, rest));
+    }
+    if let Some(rest) = after_tag(bytes, 5) {
+        let (upto, rest) = number64(rest)?;
+        return Ok((Record::IdRange { upto }, rest));
+    }
+    if let Some(rest) = after_tag(bytes, 6) {
+        let (load, rest) = load(alloc, rest)?;
+        return Ok((Record::Submit(load), rest));
+    }
+    if let Some(rest) = after_tag(bytes, 7) {
+        return commit(rest);
+    }
+    later(bytes)
+}
+
+#[tactic(auto, unfolding(crate::specs::Reading::record_at))]
+fn record_from(alloc: Global, bytes: &[u8]) -> Result<(Record, &[u8]), Stop>
+    ensures { Gives (λ x. (x.0, x.1.now)) result (record_at bytes.now) }
+{
+    match after_tag(bytes, 1) {
+        Some(rest) => fields(alloc, rest),
+        None => Err(Stop::Left(bytes.len())),
+    }
+}
+
+// The record that the bytes spell, all of the bytes.
+#[tactic(auto, unfolding(crate::specs::Reading::record_of))]
+pub fn whole_record(alloc: Global, bytes: &[u8]) -> Result<Record, Stop>
+    ensures { Gives (λ r. r) result (record_of bytes.now) }
+{
+    let (found, rest) = record_from(alloc, bytes)?;
+    match rest {
+        [] => Ok(found),
+        [_, ..] => Err(Stop::Left(rest.len())),
+    }
+}
