@@ -7,7 +7,10 @@ use Rattle.std.specs.Int.RustNames.{FitsSigned}
 use Rattle.dl_values.specs.declared.cell.Cell.{Cell}
 use Rattle.dl_values.specs.declared.cell.Cell.TheVariants as cell
 use Rattle.schema_models.specs.CellTypes.{is_calendar_day}
+use Rattle.journal_records.specs.declared.cause.Cause.{Cause}
+use Rattle.journal_records.specs.declared.cause.Cause.TheVariants as causes
 use Rattle.journal_records.specs.declared.load.Load.{Load}
+use Rattle.journal_records.specs.declared.new_part.NewPart.{NewPart}
 use Rattle.journal_records.specs.declared.record.Record.{Record}
 use Rattle.journal_records.specs.declared.record.Record.TheVariants as kind
 
@@ -29,9 +32,22 @@ short_row cells = short_list short_cell cells
 abbrev pub short_load : Load → Bool
 short_load l = short_text l.label && short_list short_row l.rows
 
+abbrev pub short_bound : Option Cell → Bool
+short_bound None = true
+short_bound (Some c) = short_cell c
+
+abbrev pub short_part : NewPart → Bool
+short_part p = short_text p.name && (short_bound p.low && short_bound p.high)
+
+abbrev pub short_cause : Cause → Bool
+short_cause (causes.Data column cells) = short_text column && short_row cells
+short_cause _ = true
+
 abbrev pub short : Record → Bool
 short (kind.CreateDb name) = short_text name
 short (kind.Submit l) = short_load l
+short (kind.AddPartition p) = short_part p
+short (kind.JobCancelled job at c) = short_cause c
 short _ = true
 
 -- ---- and numbers in their width, texts of UTF-8, days that the calendar has
@@ -64,12 +80,24 @@ FitsRow cells = FitsList FitsCell cells
 abbrev pub FitsLoad : Load → Type 0
 FitsLoad l = Fits64 l.txn × (Fits64 l.table × (FitsText l.label × (Fits64 l.at × (Unit {0} × (Fits64 l.schema × (FitsOption Fits64 l.cancelled × FitsList FitsRow l.rows))))))
 
+abbrev pub FitsPart : NewPart → Type 0
+FitsPart p = Fits64 p.table × (FitsText p.name × (FitsOption FitsCell p.low × FitsOption FitsCell p.high))
+
+abbrev pub FitsData : List ℕ × List Cell → Type 0
+FitsData x = FitsText x.0 × FitsRow x.1
+
+abbrev pub FitsCause : Cause → Type 0
+FitsCause causes.Command = Unit {0}
+FitsCause (causes.Data column cells) = FitsData (column, cells)
+FitsCause (causes.Load txn) = Fits64 txn
+
 abbrev pub FitsPair : ℕ × ℕ → Type 0
 FitsPair p = Fits64 p.0 × Fits64 p.1
 
 abbrev pub Fits : Record → Type 0
 Fits (kind.CreateDb name) = FitsText name
 Fits (kind.DropTable table at) = FitsPair (table, at)
+Fits (kind.AddPartition p) = FitsPart p
 Fits (kind.IdRange upto) = Fits64 upto
 Fits (kind.Submit l) = FitsLoad l
 Fits (kind.Commit txn at cancelled) = FitsPair (txn, at) × FitsOption Fits64 cancelled
@@ -77,4 +105,5 @@ Fits (kind.Abort txn at) = FitsPair (txn, at)
 Fits (kind.Publish txn at) = FitsPair (txn, at)
 Fits (kind.JobWaiting job watershed upto) = FitsPair (job, watershed) × Fits64 upto
 Fits (kind.JobFinished job at) = FitsPair (job, at)
+Fits (kind.JobCancelled job at c) = FitsPair (job, at) × FitsCause c
 Fits (kind.Sweep at) = Fits64 at

@@ -9,7 +9,10 @@ use Rattle.journal_records.specs.declared.stop.Stop.{Stop}
 use Rattle.journal_records.specs.declared.stop.Stop.TheVariants as stop
 use Rattle.journal_records.specs.declared.errors.DecodeError.{DecodeError}
 use Rattle.journal_records.specs.declared.errors.DecodeError.TheVariants as wrong
+use Rattle.journal_records.specs.declared.cause.Cause.{Cause}
+use Rattle.journal_records.specs.declared.cause.Cause.TheVariants as causes
 use Rattle.journal_records.specs.declared.load.Load.{Load}
+use Rattle.journal_records.specs.declared.new_part.NewPart.{NewPart}
 use Rattle.journal_records.specs.declared.record.Record.{Record}
 use Rattle.journal_records.specs.declared.record.Record.TheVariants as kind
 
@@ -112,6 +115,29 @@ load_at = do
   rows ← rows_at
   is (record { txn = txn; table = table; label = label; at = at; two_phase = two_phase; schema = schema; cancelled = cancelled; rows = rows })
 
+unfoldable pub bound_at : Reader (Option Cell)
+bound_at = optional_at cell_at
+
+unfoldable pub new_part_at : Reader NewPart
+new_part_at = do
+  table ← number64_at
+  name ← text_at
+  low ← bound_at
+  high ← bound_at
+  is (record { table = table; name = name; low = low; high = high })
+
+unfoldable pub data_cause_at : Reader (List ℕ × List Cell)
+data_cause_at = do
+  column ← text_at
+  cells ← row_at
+  is (column, cells)
+
+unfoldable pub cause_at : Reader Cause
+cause_at =
+    tagged 0 (is causes.Command)
+    (tagged 1 (data_cause_at >>= λ x. is (causes.Data x.0 x.1))
+    (tagged 2 (number64_at >>= λ txn. is (causes.Load txn)) no_tag))
+
 unfoldable pub pair_at : Reader (ℕ × ℕ)
 pair_at = do
   a ← number64_at
@@ -132,6 +158,12 @@ job_waiting_at = do
   upto ← number64_at
   is (kind.JobWaiting p.0 p.1 upto)
 
+unfoldable pub job_cancelled_at : Reader Record
+job_cancelled_at = do
+  p ← pair_at
+  c ← cause_at
+  is (kind.JobCancelled p.0 p.1 c)
+
 -- the kinds from 8 on
 unfoldable pub later_at : Reader Record
 later_at =
@@ -139,16 +171,18 @@ later_at =
     (tagged 9 (pair_at >>= λ p. is (kind.Publish p.0 p.1))
     (tagged 11 job_waiting_at
     (tagged 12 (pair_at >>= λ p. is (kind.JobFinished p.0 p.1))
-    (tagged 14 (number64_at >>= λ at. is (kind.Sweep at)) no_tag))))
+    (tagged 13 job_cancelled_at
+    (tagged 14 (number64_at >>= λ at. is (kind.Sweep at)) no_tag)))))
 
 -- the byte of the kind, and the fields
 unfoldable pub fields_at : Reader Record
 fields_at =
     tagged 1 (text_at >>= λ name. is (kind.CreateDb name))
     (tagged 3 (pair_at >>= λ p. is (kind.DropTable p.0 p.1))
+    (tagged 4 (new_part_at >>= λ p. is (kind.AddPartition p))
     (tagged 5 (number64_at >>= λ upto. is (kind.IdRange upto))
     (tagged 6 (load_at >>= λ l. is (kind.Submit l))
-    (tagged 7 commit_at later_at))))
+    (tagged 7 commit_at later_at)))))
 
 -- the byte of the format, and these
 unfoldable pub record_at : Reader Record

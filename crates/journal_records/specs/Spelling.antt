@@ -4,7 +4,10 @@ use Rattle.std.specs.List.{flat_map}
 use Rattle.std.specs.Int.{w32, w64, to_be_bytes, cast_unsigned}
 use Rattle.dl_values.specs.declared.cell.Cell.{Cell}
 use Rattle.dl_values.specs.declared.cell.Cell.TheVariants as cells
+use Rattle.journal_records.specs.declared.cause.Cause.{Cause}
+use Rattle.journal_records.specs.declared.cause.Cause.TheVariants as causes
 use Rattle.journal_records.specs.declared.load.Load.{Load}
+use Rattle.journal_records.specs.declared.new_part.NewPart.{NewPart}
 use Rattle.journal_records.specs.declared.record.Record.{Record}
 use Rattle.journal_records.specs.declared.record.Record.TheVariants as kind
 
@@ -55,7 +58,22 @@ rows xs = listed row xs
 unfoldable pub load : Load → List ℕ
 load l = number64 l.txn ++ (number64 l.table ++ (text l.label ++ (number64 l.at ++ (flag l.two_phase ++ (number64 l.schema ++ (optional number64 l.cancelled ++ rows l.rows))))))
 
--- two numbers, and three
+unfoldable pub bound : Option Cell → List ℕ
+bound end = optional cell end
+
+unfoldable pub new_part : NewPart → List ℕ
+new_part p = number64 p.table ++ (text p.name ++ (bound p.low ++ bound p.high))
+
+-- a column, and the row that cannot be converted
+unfoldable pub data_cause : List ℕ × List Cell → List ℕ
+data_cause x = text x.0 ++ row x.1
+
+unfoldable pub cause : Cause → List ℕ
+cause causes.Command = 0 ∷ []
+cause (causes.Data column cells) = 1 ∷ data_cause (column, cells)
+cause (causes.Load txn) = 2 ∷ number64 txn
+
+-- two numbers
 unfoldable pub pair : ℕ × ℕ → List ℕ
 pair p = number64 p.0 ++ number64 p.1
 
@@ -65,6 +83,7 @@ pair p = number64 p.0 ++ number64 p.1
 abbrev pub fields : Record → List ℕ
 fields (kind.CreateDb name) = 1 ∷ text name
 fields (kind.DropTable table at) = 3 ∷ pair (table, at)
+fields (kind.AddPartition p) = 4 ∷ new_part p
 fields (kind.IdRange upto) = 5 ∷ number64 upto
 fields (kind.Submit l) = 6 ∷ load l
 fields (kind.Commit txn at cancelled) = 7 ∷ (pair (txn, at) ++ optional number64 cancelled)
@@ -72,6 +91,7 @@ fields (kind.Abort txn at) = 8 ∷ pair (txn, at)
 fields (kind.Publish txn at) = 9 ∷ pair (txn, at)
 fields (kind.JobWaiting job watershed upto) = 11 ∷ (pair (job, watershed) ++ number64 upto)
 fields (kind.JobFinished job at) = 12 ∷ pair (job, at)
+fields (kind.JobCancelled job at c) = 13 ∷ (pair (job, at) ++ cause c)
 fields (kind.Sweep at) = 14 ∷ number64 at
 
 -- the byte of the format, and these

@@ -2,7 +2,7 @@
 ghost use Rattle.std.specs.Prelude.{◌≡◌, Ok};
 ghost use Rattle.std.specs.Str as strings;
 ghost use Rattle.std.specs.Int.{w32};
-ghost use Rattle.journal_records.specs.Reading.{Gives, number_at, number64_at, integer_at, text_at, day_at, job_at, pair_at, cell_at};
+ghost use Rattle.journal_records.specs.Reading.{Gives, number_at, number64_at, integer_at, text_at, day_at, job_at, pair_at, cell_at, bound_at};
 
 use crate::choices::after_tag;
 use crate::stop::Stop;
@@ -145,6 +145,21 @@ pub fn cell(alloc: Global, bytes: &[u8]) -> Result<(Cell, &[u8]), Stop>
     if let Some(rest) = after_tag(bytes, 3) {
         let (text, rest) = text(alloc, rest)?;
         return Ok((Cell::Text(text), rest));
+    }
+    Err(Stop::Left(bytes.len()))
+}
+
+// An end of a range, if there is one.
+#[tactic(auto, unfolding(crate::specs::Reading::bound_at))]
+pub fn bound(alloc: Global, bytes: &[u8]) -> Result<(Option<Cell>, &[u8]), Stop>
+    ensures { Gives (λ x. (x.0, x.1.now)) result (bound_at bytes.now) }
+{
+    if let Some(rest) = after_tag(bytes, 0) {
+        return Ok((None, rest));
+    }
+    if let Some(rest) = after_tag(bytes, 1) {
+        let (end, rest) = cell(alloc, rest)?;
+        return Ok((Some(end), rest));
     }
     Err(Stop::Left(bytes.len()))
 }

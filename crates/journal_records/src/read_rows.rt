@@ -21,8 +21,9 @@ fn cells(alloc: Global, count: u32, bytes: &[u8]) -> Result<(Row, &[u8]), Stop>
     Ok((row, rest))
 }
 
+// Cells behind their count.
 #[tactic(auto, unfolding(crate::specs::Reading::row_at))]
-fn row(alloc: Global, bytes: &[u8]) -> Result<(Row, &[u8]), Stop>
+pub fn row(alloc: Global, bytes: &[u8]) -> Result<(Row, &[u8]), Stop>
     ensures { Gives (λ x. (x.0, x.1.now)) result (row_at bytes.now) }
 {
     let (count, rest) = number32(bytes)?;

@@ -1,5 +1,7 @@
 // One record of a journal.
+use crate::cause::Cause;
 use crate::load::Load;
+use crate::new_part::NewPart;
 use dl_values::Name;
 
 /// Something that a journal tells. Tables, transactions and jobs are named by their numbers.
@@ -10,6 +12,7 @@ pub enum Record {
         table: u64,
         at: u64,
     },
+    AddPartition(NewPart),
     /// The numbers of transactions up to this one may be given from now on.
     IdRange {
         upto: u64,
@@ -37,6 +40,11 @@ pub enum Record {
     JobFinished {
         job: u64,
         at: u64,
+    },
+    JobCancelled {
+        job: u64,
+        at: u64,
+        cause: Cause,
     },
     Sweep {
         at: u64,

@@ -85,7 +85,7 @@ fn put_cell(out: &mut Vec<u8>, cell: &Cell) -> Result<(), NoMemory>
     Ok(())
 }
 
-fn put_row(out: &mut Vec<u8>, cells: &[Cell]) -> Result<(), NoMemory>
+pub fn put_row(out: &mut Vec<u8>, cells: &[Cell]) -> Result<(), NoMemory>
     ensures { OnOk result (out.new.items ≡ out.old.items ++ bytes_of.row cells.now) }
 {
     put_length(out, cells.len())?;
@@ -102,6 +102,20 @@ pub fn put_rows(out: &mut Vec<u8>, rows: &Rows) -> Result<(), NoMemory>
     put_length(out, rows.len())?;
     for place in 0..rows.len() {
         put_row(out, rows.row(place))?;
+    }
+    Ok(())
+}
+
+#[tactic(auto, unfolding(crate::specs::Spelling::bound))]
+pub fn put_bound(out: &mut Vec<u8>, end: &Option<Cell>) -> Result<(), NoMemory>
+    ensures { OnOk result (out.new.items ≡ out.old.items ++ bytes_of.bound end.now) }
+{
+    match end {
+        None => out.push(0)?,
+        Some(cell) => {
+            out.push(1)?;
+            put_cell(out, cell)?;
+        }
     }
     Ok(())
 }

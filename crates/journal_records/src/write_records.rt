@@ -2,10 +2,14 @@
 ghost use Rattle.std.specs.Prelude.{◌≡◌, ◌++◌, OnOk, ◌∷◌};
 ghost use Rattle.journal_records.specs.Spelling as bytes_of;
 
+use crate::cause::Cause;
 use crate::load::Load;
+use crate::new_part::NewPart;
 use crate::record::Record;
-use crate::write_fields::{put_flag, put_job, put_number64, put_pair, put_rows, put_text};
-use dl_values::NoMemory;
+use crate::write_fields::{
+    put_bound, put_flag, put_job, put_number64, put_pair, put_row, put_rows, put_text,
+};
+use dl_values::{Cell, NoMemory};
 
 #[tactic(auto, unfolding(crate::specs::Spelling::load))]
 fn put_load(out: &mut Vec<u8>, load: &Load) -> Result<(), NoMemory>
@@ -19,6 +23,44 @@ fn put_load(out: &mut Vec<u8>, load: &Load) -> Result<(), NoMemory>
     put_number64(out, load.schema)?;
     put_job(out, load.cancelled)?;
     put_rows(out, &load.rows)?;
+    Ok(())
+}
+
+#[tactic(auto, unfolding(crate::specs::Spelling::new_part))]
+fn put_part(out: &mut Vec<u8>, part: &NewPart) -> Result<(), NoMemory>
+    ensures { OnOk result (out.new.items ≡ out.old.items ++ bytes_of.new_part part.now) }
+{
+    put_number64(out, part.table)?;
+    put_text(out, part.name.bytes())?;
+    put_bound(out, &part.low)?;
+    put_bound(out, &part.high)?;
+    Ok(())
+}
+
+#[tactic(auto, unfolding(crate::specs::Spelling::data_cause))]
+fn put_data_cause(out: &mut Vec<u8>, column: &[u8], row: &[Cell]) -> Result<(), NoMemory>
+    ensures { OnOk result (out.new.items ≡ out.old.items ++ bytes_of.data_cause (column.now, row.now)) }
+{
+    put_text(out, column)?;
+    put_row(out, row)?;
+    Ok(())
+}
+
+#[tactic(auto, unfolding(crate::specs::Spelling::cause))]
+fn put_cause(out: &mut Vec<u8>, cause: &Cause) -> Result<(), NoMemory>
+    ensures { OnOk result (out.new.items ≡ out.old.items ++ bytes_of.cause cause.now) }
+{
+    match cause {
+        Cause::Command => out.push(0)?,
+        Cause::Data { column, row } => {
+            out.push(1)?;
+            put_data_cause(out, column.bytes(), row.cells())?;
+        }
+        Cause::Load(txn) => {
+            out.push(2)?;
+            put_number64(out, *txn)?;
+        }
+    }
     Ok(())
 }
 
@@ -40,6 +82,10 @@ fn put_fields(out: &mut Vec<u8>, told: &Record) -> Result<(), NoMemory>
             put_text(out, name.bytes())?;
         }
         Record::DropTable { table, at } => put_tag(out, 3, *table, *at)?,
+        Record::AddPartition(part) => {
+            out.push(4)?;
+            put_part(out, part)?;
+        }
         Record::IdRange { upto } => {
             out.push(5)?;
             put_number64(out, *upto)?;
@@ -63,6 +109,10 @@ fn put_fields(out: &mut Vec<u8>, told: &Record) -> Result<(), NoMemory>
             put_number64(out, *upto)?;
         }
         Record::JobFinished { job, at } => put_tag(out, 12, *job, *at)?,
+        Record::JobCancelled { job, at, cause } => {
+            put_tag(out, 13, *job, *at)?;
+            put_cause(out, cause)?;
+        }
         Record::Sweep { at } => {
             out.push(14)?;
             put_number64(out, *at)?;
