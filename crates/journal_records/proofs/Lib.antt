@@ -1,0 +1,5 @@
+pub mod Appends
+pub mod Fields
+pub mod Loops
+pub mod Records
+pub mod Strings

@@ -1,0 +1,7 @@
+use Rattle.std.proofs.Common.{◌≡◌, ◌++◌, length, take}
+use Rattle.std.specs.List.{flat_map}
+use Rattle.journal_records.specs.Spelling.{number32, cell}
+use Rattle.journal_records.proofs.write_fields.put_row.Given as goal
+
+abbrev pub invariant-loop-cell : goal.invariant-loop-cell
+invariant-loop-cell l = l.out.items ≡ l.fn.out.items ++ (number32 (length l.cells) ++ flat_map cell (take l.cell-index l.cells))

@@ -1,0 +1,99 @@
+-- The one spelling of each record in bytes (this project's own, format 1).
+use Rattle.std.specs.Prelude.{ℕ, ℤ, Bool, true, false, List, [], ◌∷◌, ◌++◌, length, Option, Some, None}
+use Rattle.std.specs.List.{flat_map}
+use Rattle.std.specs.Int.{w32, w64, to_be_bytes, cast_unsigned}
+use Rattle.dl_values.specs.declared.cell.Cell.{Cell}
+use Rattle.dl_values.specs.declared.cell.Cell.TheVariants as cells
+use Rattle.journal_records.specs.declared.cause.Cause.{Cause}
+use Rattle.journal_records.specs.declared.cause.Cause.TheVariants as causes
+use Rattle.journal_records.specs.declared.load.Load.{Load}
+use Rattle.journal_records.specs.declared.new_part.NewPart.{NewPart}
+use Rattle.journal_records.specs.declared.record.Record.{Record}
+use Rattle.journal_records.specs.declared.record.Record.TheVariants as kind
+
+-- ---- fields
+
+-- numbers of four and of eight bytes, the highest byte first
+abbrev pub number32 : ℕ → List ℕ
+number32 n = to_be_bytes w32 n
+
+unfoldable pub number64 : ℕ → List ℕ
+number64 n = to_be_bytes w64 n
+
+-- an integer, as its two's complement of 64 bits
+abbrev pub integer : ℤ → List ℕ
+integer z = number64 (cast_unsigned w64 z)
+
+-- a text behind its length
+unfoldable pub text : List ℕ → List ℕ
+text t = number32 (length t) ++ t
+
+abbrev pub flag : Bool → List ℕ
+flag false = 0 ∷ []
+flag true = 1 ∷ []
+
+-- 0, or 1 and the member
+abbrev pub optional : {A : Type 0} → (A → List ℕ) → Option A → List ℕ
+optional w None = 0 ∷ []
+optional w (Some x) = 1 ∷ w x
+
+-- the members behind their count
+abbrev pub listed : {A : Type 0} → (A → List ℕ) → List A → List ℕ
+listed w xs = number32 (length xs) ++ flat_map w xs
+
+-- ---- parts of records
+
+abbrev pub cell : Cell → List ℕ
+cell cells.Null = 0 ∷ []
+cell (cells.Int z) = 1 ∷ integer z
+cell (cells.Day d) = 2 ∷ number32 d
+cell (cells.Text t) = 3 ∷ text t
+
+abbrev pub row : List Cell → List ℕ
+row xs = listed cell xs
+
+unfoldable pub rows : List (List Cell) → List ℕ
+rows xs = listed row xs
+
+unfoldable pub load : Load → List ℕ
+load l = number64 l.txn ++ (number64 l.table ++ (text l.label ++ (number64 l.at ++ (flag l.two_phase ++ (number64 l.schema ++ (optional number64 l.cancelled ++ rows l.rows))))))
+
+unfoldable pub bound : Option Cell → List ℕ
+bound end = optional cell end
+
+unfoldable pub new_part : NewPart → List ℕ
+new_part p = number64 p.table ++ (text p.name ++ (bound p.low ++ bound p.high))
+
+-- a column, and the row that cannot be converted
+unfoldable pub data_cause : List ℕ × List Cell → List ℕ
+data_cause x = text x.0 ++ row x.1
+
+unfoldable pub cause : Cause → List ℕ
+cause causes.Command = 0 ∷ []
+cause (causes.Data column cells) = 1 ∷ data_cause (column, cells)
+cause (causes.Load txn) = 2 ∷ number64 txn
+
+-- two numbers
+unfoldable pub pair : ℕ × ℕ → List ℕ
+pair p = number64 p.0 ++ number64 p.1
+
+-- ---- records
+
+-- the byte of the kind, and the fields
+abbrev pub fields : Record → List ℕ
+fields (kind.CreateDb name) = 1 ∷ text name
+fields (kind.DropTable table at) = 3 ∷ pair (table, at)
+fields (kind.AddPartition p) = 4 ∷ new_part p
+fields (kind.IdRange upto) = 5 ∷ number64 upto
+fields (kind.Submit l) = 6 ∷ load l
+fields (kind.Commit txn at cancelled) = 7 ∷ (pair (txn, at) ++ optional number64 cancelled)
+fields (kind.Abort txn at) = 8 ∷ pair (txn, at)
+fields (kind.Publish txn at) = 9 ∷ pair (txn, at)
+fields (kind.JobWaiting job watershed upto) = 11 ∷ (pair (job, watershed) ++ number64 upto)
+fields (kind.JobFinished job at) = 12 ∷ pair (job, at)
+fields (kind.JobCancelled job at c) = 13 ∷ (pair (job, at) ++ cause c)
+fields (kind.Sweep at) = 14 ∷ number64 at
+
+-- the byte of the format, and these
+abbrev pub spelling : Record → List ℕ
+spelling r = 1 ∷ fields r
