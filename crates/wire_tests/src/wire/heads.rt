@@ -11,45 +11,67 @@ fn head_of(alloc: Global, bytes: &[u8]) -> Result<Option<Head>, WireError> {
     HttpReader::new().next_head(alloc, &mut source)
 }
 
+// Whether a head is what curl sends before a body of 8 bytes.
+fn is_of_curl(head: &Head) -> bool {
+    head.method.as_str() == "PUT"
+        && head.target.as_bytes() == b"/api/shop/clicks/_stream_load".as_slice()
+        && head.minor == 1
+        && head.at == 0
+        && head.body == BodyLength::Fixed(8)
+}
+
+fn has_fields_of_curl(head: &Head) -> bool {
+    if head.fields.len() != 7 || head.fields.is_empty() {
+        return false;
+    }
+    let (name, value) = head.fields.get(4);
+    name == b"label".as_slice()
+        && value == b"load-1".as_slice()
+        && head.fields.has(b"AUTHORIZATION", b"basic cm9vdDo=")
+}
+
 #[test]
 fn hands_out_the_parts_of_a_head(rt: HostRuntime) -> Result<(), Fail> {
     let head = head_of(rt.alloc(), CURL_PUT)?.ok_or("a head")?;
-    assert_eq!(rt; head.method.as_str(), "PUT");
-    assert_eq!(rt;
-        head.target.as_bytes(),
-        b"/api/shop/clicks/_stream_load".as_slice()
-    );
-    assert_eq!(rt; head.minor, 1);
-    assert_eq!(rt; head.at, 0);
-    assert_eq!(rt; head.body, BodyLength::Fixed(8));
-    assert_eq!(rt; head.fields.len(), 7);
-    assert!(rt; !head.fields.is_empty());
-    let (name, value) = head.fields.get(4);
-    assert_eq!(rt; name, b"label".as_slice());
-    assert_eq!(rt; value, b"load-1".as_slice());
-    assert!(rt; head.fields.has(b"AUTHORIZATION", b"basic cm9vdDo="));
+    assert!(rt; is_of_curl(&head));
+    assert!(rt; has_fields_of_curl(&head));
     Ok(())
+}
+
+// Whether a head is one that expects an interim response, and whether it closes the connection.
+fn asks(alloc: Global, bytes: &[u8]) -> Result<Option<(bool, bool)>, WireError> {
+    match &head_of(alloc, bytes)? {
+        Some(head) => Ok(Some((head.expects_continue(), head.closes()))),
+        None => Ok(None),
+    }
+}
+
+// A head, whether it expects an interim response, and whether it closes the connection.
+type Asking = (&'static [u8], bool, bool);
+
+const ASKING: &[Asking] = &[
+    (CURL_PUT, true, false),
+    (
+        b"PUT / HTTP/1.0\r\nExpect: 100-continue\r\nContent-Length: 1\r\n\r\n",
+        false,
+        true,
+    ),
+    (
+        b"PUT / HTTP/1.1\r\nconnection: Close\r\nExpect: 100-continue\r\n\r\n",
+        false,
+        true,
+    ),
+];
+
+fn asking() -> &'static [Asking] {
+    ASKING
 }
 
 #[test]
 fn tells_what_a_head_asks_of_the_connection(rt: HostRuntime) -> Result<(), Fail> {
-    let put = head_of(rt.alloc(), CURL_PUT)?.ok_or("a head")?;
-    assert!(rt; put.expects_continue());
-    assert!(rt; !put.closes());
-    let old = head_of(
-        rt.alloc(),
-        b"PUT / HTTP/1.0\r\nExpect: 100-continue\r\nContent-Length: 1\r\n\r\n",
-    )?
-    .ok_or("a head")?;
-    assert!(rt; !old.expects_continue());
-    assert!(rt; old.closes());
-    let last = head_of(
-        rt.alloc(),
-        b"PUT / HTTP/1.1\r\nconnection: Close\r\nExpect: 100-continue\r\n\r\n",
-    )?
-    .ok_or("a head")?;
-    assert!(rt; !last.expects_continue());
-    assert!(rt; last.closes());
+    for (bytes, expects, closes) in asking() {
+        assert!(rt; asks(rt.alloc(), bytes)? == Some((*expects, *closes)));
+    }
     Ok(())
 }
 
@@ -74,23 +96,36 @@ fn head_of_length(alloc: Global, length: usize) -> Result<Vec<u8>, AllocError> {
     Ok(bytes)
 }
 
+// Why no further request was read of these bytes.
+fn end_of(alloc: Global, bytes: &[u8], piece: usize) -> Result<Option<WireError>, AllocError> {
+    let mut source = source(alloc, bytes, piece)?;
+    Ok(requests_of(alloc, &mut source).1)
+}
+
+// Why no further request was read of so many fields more than a head may have, and of so many bytes more.
+fn end_of_many(alloc: Global, more: usize, piece: usize) -> Result<Option<WireError>, AllocError> {
+    let bytes = head_with(alloc, MAX_FIELDS.saturating_add(more))?;
+    end_of(alloc, &bytes, piece)
+}
+
+fn end_of_long(alloc: Global, more: usize, piece: usize) -> Result<Option<WireError>, AllocError> {
+    let bytes = head_of_length(alloc, MAX_HEAD.saturating_add(more))?;
+    if bytes.len() != MAX_HEAD.saturating_add(more) {
+        return Ok(Some(WireError::CutBody {
+            at: 0,
+            got: 0,
+            wanted: 0,
+        }));
+    }
+    end_of(alloc, &bytes, piece)
+}
+
 #[test]
 fn takes_64_fields_and_16384_bytes_and_no_more(rt: HostRuntime) -> Result<(), Fail> {
-    let alloc = rt.alloc();
-    let bad = Some(WireError::BadHead { at: 0 });
-    for (extra, end) in [(0, None), (1, bad)] {
+    for (more, end) in [(0, None), (1, Some(WireError::BadHead { at: 0 }))] {
         for piece in [1000, 100_000] {
-            let many = head_with(alloc, MAX_FIELDS + extra)?;
-            assert_eq!(rt;
-                requests_of(alloc, &mut source(alloc, &many, piece)?).1,
-                end
-            );
-            let long = head_of_length(alloc, MAX_HEAD + extra)?;
-            assert_eq!(rt; long.len(), MAX_HEAD + extra);
-            assert_eq!(rt;
-                requests_of(alloc, &mut source(alloc, &long, piece)?).1,
-                end
-            );
+            assert!(rt; end_of_many(rt.alloc(), more, piece)? == end);
+            assert!(rt; end_of_long(rt.alloc(), more, piece)? == end);
         }
     }
     Ok(())

@@ -37,235 +37,225 @@ fn reads(
     Ok(())
 }
 
-#[test]
-fn reads_valid_requests(rt: HostRuntime) -> Result<(), AllocError> {
-    let alloc = rt.alloc();
-    reads(&rt, alloc, b"", 0, None)?;
-    reads(&rt, alloc, b"GET / HTTP/1.1\r\n\r\n", 1, None)?;
-    reads(&rt, alloc, b"GET / HTTP/1.0\n\n", 1, None)?;
-    reads(
-        &rt,
-        alloc,
-        b"\r\n\nGET / HTTP/1.1\r\n\r\nGET /b HTTP/1.1\r\n\r\n",
-        2,
-        None,
-    )?;
-    reads(
-        &rt,
-        alloc,
-        b"PUT / HTTP/1.1\r\nContent-Length: 3\r\n\r\nabcGET / HTTP/1.1\r\n\r\n",
-        2,
-        None,
-    )?;
-    reads(
-        &rt,
-        alloc,
-        b"PUT / HTTP/1.1\r\ncontent-LENGTH: 3\r\nContent-Length: 03\r\n\r\nabc",
-        1,
-        None,
-    )?;
-    reads(
-        &rt,
-        alloc,
-        b"PUT / HTTP/1.1\r\nContent-Length: 0000000000000000003\r\n\r\nabc",
-        1,
-        None,
-    )?;
-    reads(
-        &rt,
-        alloc,
-        b"PUT / HTTP/1.1\r\nContent-Length: 0\r\n\r\n",
-        1,
-        None,
-    )
-}
+// Bytes, how many requests they are, and why there is no further one.
+type Requests = (&'static [u8], u64, Option<WireError>);
 
-#[test]
-fn refuses_what_is_no_head(rt: HostRuntime) -> Result<(), AllocError> {
-    let alloc = rt.alloc();
-    reads(&rt, alloc, b"\r\n", 0, Some(BadHead { at: 0 }))?;
-    reads(&rt, alloc, b"x", 0, Some(BadHead { at: 0 }))?;
-    reads(
-        &rt,
-        alloc,
-        b"GET / HTTP/1.1\r\n",
-        0,
-        Some(BadHead { at: 0 }),
-    )?;
-    reads(
-        &rt,
-        alloc,
-        b"GET / HTTP/2.0\r\n\r\n",
-        0,
-        Some(BadHead { at: 0 }),
-    )?;
-    reads(
-        &rt,
-        alloc,
-        b"GET /\x01 HTTP/1.1\r\n\r\n",
-        0,
-        Some(BadHead { at: 0 }),
-    )?;
-    reads(
-        &rt,
-        alloc,
-        b"GET / HTTP/1.1\r\na b: c\r\n\r\n",
-        0,
-        Some(BadHead { at: 0 }),
-    )?;
-    reads(
-        &rt,
-        alloc,
-        b"GET / HTTP/1.1\r\n\r\n\x00",
-        1,
-        Some(BadHead { at: 18 }),
-    )
-}
-
-#[test]
-fn refuses_bad_lengths(rt: HostRuntime) -> Result<(), AllocError> {
-    let alloc = rt.alloc();
-    let bad = Some(BadLength { at: 0 });
-    reads(
-        &rt,
-        alloc,
-        b"PUT / HTTP/1.1\r\nContent-Length:\r\n\r\n",
-        0,
-        bad,
-    )?;
-    reads(
-        &rt,
-        alloc,
-        b"PUT / HTTP/1.1\r\nContent-Length: +3\r\n\r\nabc",
-        0,
-        bad,
-    )?;
-    reads(
-        &rt,
-        alloc,
-        b"PUT / HTTP/1.1\r\nContent-Length: 3, 3\r\n\r\nabc",
-        0,
-        bad,
-    )?;
-    reads(
-        &rt,
-        alloc,
-        b"PUT / HTTP/1.1\r\nContent-Length: 0x3\r\n\r\nabc",
-        0,
-        bad,
-    )?;
-    reads(
-        &rt,
-        alloc,
-        b"PUT / HTTP/1.1\r\nContent-Length: 00000000000000000003\r\n\r\nabc",
-        0,
-        bad,
-    )?;
-    reads(
-        &rt,
-        alloc,
-        b"PUT / HTTP/1.1\r\nContent-Length: 3\r\nContent-Length: 4\r\n\r\nabcd",
-        0,
-        bad,
-    )?;
-    reads(
-        &rt,
-        alloc,
-        b"PUT / HTTP/1.1\r\nTransfer-Encoding: chunked\r\n\r\n0\r\n\r\n",
-        0,
-        bad,
-    )?;
-    let second = Some(BadLength { at: 20 });
-    reads(
-        &rt,
-        alloc,
-        b"GET / HTTP/1.1\r\n\r\n\r\nPUT / HTTP/1.1\r\nContent-Length: a\r\n\r\n",
-        1,
-        Some(BadLength { at: 18 }),
-    )?;
-    reads(
-        &rt,
-        alloc,
-        b"GET /a? HTTP/1.1\r\n\r\nPUT / HTTP/1.1\r\nContent-Length: a\r\n\r\n",
-        1,
-        second,
-    )
-}
-
-#[test]
-fn refuses_long_and_cut_bodies(rt: HostRuntime) -> Result<(), AllocError> {
-    let alloc = rt.alloc();
-    let long = Some(BodyTooLong { at: 0 });
-    reads(
-        &rt,
-        alloc,
-        b"PUT / HTTP/1.1\r\nContent-Length: 16777217\r\n\r\nabc",
-        0,
-        long,
-    )?;
-    reads(
-        &rt,
-        alloc,
-        b"PUT / HTTP/1.1\r\nContent-Length: 9999999999999999999\r\n\r\nabc",
-        0,
-        long,
-    )?;
-    let most = Some(CutBody {
-        at: 0,
-        got: 3,
-        wanted: 16777216,
-    });
-    reads(
-        &rt,
-        alloc,
-        b"PUT / HTTP/1.1\r\nContent-Length: 16777216\r\n\r\nabc",
-        0,
-        most,
-    )?;
-    let cut = Some(CutBody {
-        at: 18,
-        got: 0,
-        wanted: 5,
-    });
-    reads(
-        &rt,
-        alloc,
-        b"GET / HTTP/1.1\r\n\r\nPUT / HTTP/1.1\r\nContent-Length: 5\r\n\r\n",
-        1,
-        cut,
-    )
-}
-
-#[test]
-fn a_cut_text_has_the_requests_before_the_cut(rt: HostRuntime) -> Result<(), AllocError> {
-    let alloc = rt.alloc();
-    let two = b"PUT / HTTP/1.1\r\nContent-Length: 3\r\n\r\nabcGET / HTTP/1.1\r\n\r\n";
-    let (head, first) = (37, 40);
-    for cut in 1..two.len() {
-        let answer = if cut < head {
-            (0, Some(BadHead { at: 0 }))
-        } else if cut < first {
-            let got = (cut - head) as u64;
-            let end = CutBody {
-                at: 0,
-                got,
-                wanted: 3,
-            };
-            (0, Some(end))
-        } else if cut == first {
-            (1, None)
-        } else {
-            (1, Some(BadHead { at: 40 }))
-        };
-        agrees(&rt, alloc, &two[..cut], answer)?;
+fn are_read(rt: &impl Abort, alloc: Global, of: &[Requests]) -> Result<(), AllocError> {
+    for (bytes, count, end) in of {
+        reads(rt, alloc, bytes, *count, *end)?;
     }
     Ok(())
 }
 
+const VALID: &[Requests] = &[
+    (b"", 0, None),
+    (b"GET / HTTP/1.1\r\n\r\n", 1, None),
+    (b"GET / HTTP/1.0\n\n", 1, None),
+    (
+        b"\r\n\nGET / HTTP/1.1\r\n\r\nGET /b HTTP/1.1\r\n\r\n",
+        2,
+        None,
+    ),
+    (
+        b"PUT / HTTP/1.1\r\nContent-Length: 3\r\n\r\nabcGET / HTTP/1.1\r\n\r\n",
+        2,
+        None,
+    ),
+    (
+        b"PUT / HTTP/1.1\r\ncontent-LENGTH: 3\r\nContent-Length: 03\r\n\r\nabc",
+        1,
+        None,
+    ),
+    (
+        b"PUT / HTTP/1.1\r\nContent-Length: 0000000000000000003\r\n\r\nabc",
+        1,
+        None,
+    ),
+    (b"PUT / HTTP/1.1\r\nContent-Length: 0\r\n\r\n", 1, None),
+];
+
+fn valid() -> &'static [Requests] {
+    VALID
+}
+
+#[test]
+fn reads_valid_requests(rt: HostRuntime) -> Result<(), AllocError> {
+    are_read(&rt, rt.alloc(), valid())
+}
+
+const NO_HEADS: &[Requests] = &[
+    (b"\r\n", 0, Some(BadHead { at: 0 })),
+    (b"x", 0, Some(BadHead { at: 0 })),
+    (b"GET / HTTP/1.1\r\n", 0, Some(BadHead { at: 0 })),
+    (b"GET / HTTP/2.0\r\n\r\n", 0, Some(BadHead { at: 0 })),
+    (b"GET /\x01 HTTP/1.1\r\n\r\n", 0, Some(BadHead { at: 0 })),
+    (
+        b"GET / HTTP/1.1\r\na b: c\r\n\r\n",
+        0,
+        Some(BadHead { at: 0 }),
+    ),
+    (b"GET / HTTP/1.1\r\n\r\n\x00", 1, Some(BadHead { at: 18 })),
+];
+
+fn no_heads() -> &'static [Requests] {
+    NO_HEADS
+}
+
+#[test]
+fn refuses_what_is_no_head(rt: HostRuntime) -> Result<(), AllocError> {
+    are_read(&rt, rt.alloc(), no_heads())
+}
+
+const LENGTHS: &[Requests] = &[
+    (
+        b"PUT / HTTP/1.1\r\nContent-Length:\r\n\r\n",
+        0,
+        Some(BadLength { at: 0 }),
+    ),
+    (
+        b"PUT / HTTP/1.1\r\nContent-Length: +3\r\n\r\nabc",
+        0,
+        Some(BadLength { at: 0 }),
+    ),
+    (
+        b"PUT / HTTP/1.1\r\nContent-Length: 3, 3\r\n\r\nabc",
+        0,
+        Some(BadLength { at: 0 }),
+    ),
+    (
+        b"PUT / HTTP/1.1\r\nContent-Length: 0x3\r\n\r\nabc",
+        0,
+        Some(BadLength { at: 0 }),
+    ),
+    (
+        b"PUT / HTTP/1.1\r\nContent-Length: 00000000000000000003\r\n\r\nabc",
+        0,
+        Some(BadLength { at: 0 }),
+    ),
+    (
+        b"PUT / HTTP/1.1\r\nContent-Length: 3\r\nContent-Length: 4\r\n\r\nabcd",
+        0,
+        Some(BadLength { at: 0 }),
+    ),
+    (
+        b"PUT / HTTP/1.1\r\nTransfer-Encoding: chunked\r\n\r\n0\r\n\r\n",
+        0,
+        Some(BadLength { at: 0 }),
+    ),
+    (
+        b"GET / HTTP/1.1\r\n\r\n\r\nPUT / HTTP/1.1\r\nContent-Length: a\r\n\r\n",
+        1,
+        Some(BadLength { at: 18 }),
+    ),
+    (
+        b"GET /a? HTTP/1.1\r\n\r\nPUT / HTTP/1.1\r\nContent-Length: a\r\n\r\n",
+        1,
+        Some(BadLength { at: 20 }),
+    ),
+];
+
+fn lengths() -> &'static [Requests] {
+    LENGTHS
+}
+
+#[test]
+fn refuses_bad_lengths(rt: HostRuntime) -> Result<(), AllocError> {
+    are_read(&rt, rt.alloc(), lengths())
+}
+
+const BODIES: &[Requests] = &[
+    (
+        b"PUT / HTTP/1.1\r\nContent-Length: 16777217\r\n\r\nabc",
+        0,
+        Some(BodyTooLong { at: 0 }),
+    ),
+    (
+        b"PUT / HTTP/1.1\r\nContent-Length: 9999999999999999999\r\n\r\nabc",
+        0,
+        Some(BodyTooLong { at: 0 }),
+    ),
+    (
+        b"PUT / HTTP/1.1\r\nContent-Length: 16777216\r\n\r\nabc",
+        0,
+        Some(CutBody {
+            at: 0,
+            got: 3,
+            wanted: 16777216,
+        }),
+    ),
+    (
+        b"GET / HTTP/1.1\r\n\r\nPUT / HTTP/1.1\r\nContent-Length: 5\r\n\r\n",
+        1,
+        Some(CutBody {
+            at: 18,
+            got: 0,
+            wanted: 5,
+        }),
+    ),
+];
+
+fn bodies() -> &'static [Requests] {
+    BODIES
+}
+
+#[test]
+fn refuses_long_and_cut_bodies(rt: HostRuntime) -> Result<(), AllocError> {
+    are_read(&rt, rt.alloc(), bodies())
+}
+
+const TWO: &[u8] = b"PUT / HTTP/1.1\r\nContent-Length: 3\r\n\r\nabcGET / HTTP/1.1\r\n\r\n";
+
+// How many of these two requests stand before a cut, and why no further one does: the first has its head in 37 bytes, and 40 of its own.
+fn answer_at(cut: usize) -> (u64, Option<WireError>) {
+    let wanted = 3;
+    match cut {
+        0..=36 => (0, Some(BadHead { at: 0 })),
+        37 => (
+            0,
+            Some(CutBody {
+                at: 0,
+                got: 0,
+                wanted,
+            }),
+        ),
+        38 => (
+            0,
+            Some(CutBody {
+                at: 0,
+                got: 1,
+                wanted,
+            }),
+        ),
+        39 => (
+            0,
+            Some(CutBody {
+                at: 0,
+                got: 2,
+                wanted,
+            }),
+        ),
+        40 => (1, None),
+        _ => (1, Some(BadHead { at: 40 })),
+    }
+}
+
+#[test]
+fn a_cut_text_has_the_requests_before_the_cut(rt: HostRuntime) -> Result<(), AllocError> {
+    for cut in 1..TWO.len() {
+        agrees(&rt, rt.alloc(), &TWO[..cut], answer_at(cut))?;
+    }
+    Ok(())
+}
+
+const OF_CURL: &[Requests] = &[(CURL_PUT, 1, None), (CURL_POST, 1, None)];
+
+fn of_curl() -> &'static [Requests] {
+    OF_CURL
+}
+
 #[test]
 fn reads_what_curl_sends(rt: HostRuntime) -> Result<(), AllocError> {
-    reads(&rt, rt.alloc(), CURL_PUT, 1, None)?;
-    reads(&rt, rt.alloc(), CURL_POST, 1, None)
+    are_read(&rt, rt.alloc(), of_curl())
 }
 
 #[test]
