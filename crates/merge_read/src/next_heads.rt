@@ -54,6 +54,7 @@ fn next_list<'a>(first: &mut Head<'a>, others: &mut Heads<'a>) -> bool
 
 // Looks at the row of a list at a place, where it has one, and puts the first of all heads in the place of a head that was
 // taken. Where there is none it is false.
+#[inline(always)]
 pub fn next_first<'a, R: SortedRows, L: Ledger>(
     width: usize,
     list: usize,
@@ -79,7 +80,8 @@ pub fn next_first<'a, R: SortedRows, L: Ledger>(
     next_list(first, others)
 }
 
-// Looks at the first row of each list.
+// Looks at the first row of each list. It stands by itself, so that each next row does not make room for it.
+#[inline(never)]
 pub fn load_heads<'a, R: SortedRows, L: Ledger>(
     shape: &Shape,
     width: usize,
