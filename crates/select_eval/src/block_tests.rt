@@ -44,7 +44,7 @@ fn add_test(tests: &mut Vec<Test>, column: usize, op: Op, literal: Cell) -> Resu
     Ok(())
 }
 
-// A literal that is null gives no test: other than in a test of blocks, a cell that is not null is above it.
+// A literal that is null gives no test: a condition orders cells about it, with null least, where a test of blocks is false.
 fn add_comparison(
     alloc: Global,
     tests: &mut Vec<Test>,

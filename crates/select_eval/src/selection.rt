@@ -66,8 +66,9 @@ fn answer_of<R: SortedRows + Zones, L: Ledger>(
 }
 
 /// What a query answers over the fold of stored lists, of which the oldest stands first: the base is the shape that the
-/// query is written for, the index that of the lists. Blocks that a test of a key cannot match are passed over. A row that passes its tests goes into its group, or becomes a row of the
-/// answer, before the next is read; the rows of the answer are then ordered and limited.
+/// query is written for, the index that of the lists. Blocks that a test of a key cannot match are passed over. A row that
+/// passes its tests goes into its group, or becomes a row of the answer, before the next is read; the rows of the answer are
+/// then ordered and limited.
 pub fn select<R: SortedRows + Zones, L: Ledger>(
     alloc: Global,
     base: &Shape,
