@@ -14,7 +14,11 @@ use Rattle.front_laws.specs.Tidy.{Each}
 use Rattle.front_laws.proofs.Lists.{each_imp, eq_is}
 use Rattle.front_core.specs.declared.kept.Kept.{Kept}
 use Rattle.front_core.specs.Seen.{Ascending, AscendsBy, seen}
-use Rattle.front_core.proofs.Puts.{each_index}
+
+each_index : {X : Type 0} (P : X → Type 0) (xs : List X) (i : ℕ) (d : X) → i < length xs → Each P xs → P (get_or xs i d)
+each_index P [] i d lt e = absurd (omega arith)
+each_index P (x ∷ xs) zero d lt e = e.0
+each_index P (x ∷ xs) (suc i) d lt e = each_index P xs i d (omega arith) e.1
 
 higher : (a b x : ℕ) → a ≤ b → ordering_index (nat_cmp a x) ≤ ordering_index (nat_cmp b x)
 higher a b x le = grind (arith, nat_tests)

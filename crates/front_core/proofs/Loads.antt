@@ -1,182 +1,154 @@
 -- What waits of a load, after one begins, is submitted or ends.
-use Rattle.std.proofs.Common.{◌≡◌, ℕ, ◌<◌, Bool, true, false, cond, List, [], ◌∷◌, ◌++◌, Option, Some, None, map, find, refl, sym, ◌∙◌, ap, arith, subst, nat_eq}
+use Rattle.std.proofs.Common.{◌≡◌, ℕ, zero, suc, ◌+◌, ◌≤◌, Bool, true, false, cond, List, [], ◌∷◌, ◌++◌, Option, Some, None, map, filter, find, get_or, refl, sym, ◌∙◌, ap, arith, subst, nat_eq}
 use Rattle.std.proofs.lemmas.Bool.Decides.{nat_tests}
+use Rattle.std.specs.List.{list_any}
 use Rattle.dl_values.specs.declared.cell.Cell.{Cell}
+use Rattle.partitions.specs.LayoutView.{LayoutView}
+use Rattle.partitions.specs.Places.{Place, lies_in, rows_at, tablets_of}
+use Rattle.row_map.specs.declared.map.RowMap.{RowMap}
+use Rattle.alter_core.specs.declared.job.JobInfo.{JobInfo}
 use Rattle.front_defs.specs.declared.catalogue.Table.{Table}
 use Rattle.front_defs.specs.declared.txn.Txn.{Txn}
 use Rattle.front_defs.specs.Catalogue.{table_at}
-use Rattle.front_defs.specs.Journal.{There}
-use Rattle.front_defs.specs.Stands.{WaitingRows, waiting_for, waiting_in}
-use Rattle.front_defs.specs.Stored.{folded_some, waiting_by}
-use Rattle.front_defs.specs.Transactions.{txn_at, changed, put_txn}
-use Rattle.front_laws.specs.Tidy.{Each, Ascends, HasHome, IsHome}
-use Rattle.std.specs.Prelude.{filter, nat_lt}
-use Rattle.front_laws.proofs.Lists.{each_imp, each_found, eq_is, found_id}
+use Rattle.front_defs.specs.Indexes.{Index}
+use Rattle.front_defs.specs.Stands.{WaitingRows, waiting_for, waiting_found}
+use Rattle.front_defs.specs.Stored.{PlacedRows, indexed, sets_in, sets_of, spoils_map, target_at, waiting_by, waiting_in}
+use Rattle.front_defs.specs.Transactions.{txn_at, changed}
+use Rattle.front_laws.specs.Tidy.{Each}
+use Rattle.front_laws.proofs.Lists.{each_found, eq_is}
+use Rattle.front_laws.proofs.Keeping.{made_apart}
 use Rattle.front_core.specs.Parts.{given}
 
-eq_self : (n : ℕ) → nat_eq n n ≡ true
-eq_self n = grind (arith, nat_tests)
+-- ---- without rows nothing waits
+none_spoils : (o : Option RowMap) (sets : List PlacedRows) → cond (spoils_map o []) [] sets ≡ sets
+none_spoils None sets = refl
+none_spoils (Some m) sets = refl
 
--- one that begins waits with nothing
-with_more : (n : ℕ) (w : WaitingRows) → w.rows ≡ [] → waiting_in (cond (nat_eq w.txn n) (Some w) None) ≡ []
-with_more n w e = elim (nat_eq w.txn n) as (λ b. waiting_in (cond b (Some w) None) ≡ []) [ true ↦ e | false ↦ refl ]
+no_places : (l : LayoutView) (ws : List Place) → filter (λ (w : Place). list_any (lies_in l w.part) []) ws ≡ []
+no_places l [] = refl
+no_places l (w ∷ ws) = no_places l ws
 
-more_cons : (n : ℕ) (w : WaitingRows) (a b : Option WaitingRows) (t : Bool) → waiting_in a ≡ waiting_in b → waiting_in (cond t (Some w) a) ≡ waiting_in (cond t (Some w) b)
-more_cons n w a b true e = refl
-more_cons n w a b false e = e
+no_sets : (o : Option Index) (t : Table) → sets_in o t [] ≡ []
+no_sets None t = refl
+no_sets (Some x) t = none_spoils x.map (sets_of t.layout x []) ∙ ap (map (λ (w : Place). record { place = w; rows = indexed x (rows_at t.layout w []) })) (no_places t.layout (tablets_of t.layout))
 
-pub waiting_more : (n : ℕ) (ws : List WaitingRows) (w : WaitingRows) → w.rows ≡ [] → waiting_for n (ws ++ w ∷ []) ≡ waiting_for n ws
-waiting_more n [] w e = with_more n w e
-waiting_more n (x ∷ xs) w e = more_cons n x (find (λ y. nat_eq y.txn n) (xs ++ w ∷ [])) (find (λ y. nat_eq y.txn n) xs) (nat_eq x.txn n) (waiting_more n xs w e)
+no_rows : (o : Option Table) (jobs : List JobInfo) (index id : ℕ) (rows : List (List Cell)) → rows ≡ [] → waiting_in o jobs index id rows ≡ []
+no_rows None jobs index id rows e = refl
+no_rows (Some t) jobs index id rows e = rw e (no_sets (target_at t jobs index id) t)
 
-none_folded : (o : Option Table) (rows : List (List Cell)) → rows ≡ [] → folded_some o rows ≡ []
-none_folded o rows e = rw e refl
+no_set_at : (index : ℕ) → (let none : List PlacedRows = [] in get_or (none ∷ []) index none ≡ none)
+no_set_at zero = refl
+no_set_at (suc n) = refl
 
-by_none : (n : ℕ) (t : Txn) (tables : List Table) → t.rows ≡ [] → waiting_by (cond (nat_eq t.id n) (Some t) None) tables ≡ []
-by_none n t tables e = elim (nat_eq t.id n) as (λ b. waiting_by (cond b (Some t) None) tables ≡ []) [ true ↦ none_folded (table_at t.table tables) t.rows e | false ↦ refl ]
+-- ---- one that begins waits with nothing
+with_more : (n index : ℕ) (w : WaitingRows) → w.sets ≡ [] ∷ [] → waiting_found index (cond (nat_eq w.txn n) (Some w) None) ≡ []
+with_more n index w e = elim (nat_eq w.txn n) as (λ (b : Bool). waiting_found index (cond b (Some w) None) ≡ []) [ true ↦ ap (λ (s : List (List PlacedRows)). get_or s index []) e ∙ no_set_at index | false ↦ refl ]
 
-by_cons : (t : Txn) (a b : Option Txn) (tables : List Table) (h : Bool) → waiting_by a tables ≡ waiting_by b tables → waiting_by (cond h (Some t) a) tables ≡ waiting_by (cond h (Some t) b) tables
-by_cons t a b tables true e = refl
-by_cons t a b tables false e = e
+more_cons : (index : ℕ) (w : WaitingRows) (a b : Option WaitingRows) (t : Bool) → waiting_found index a ≡ waiting_found index b → waiting_found index (cond t (Some w) a) ≡ waiting_found index (cond t (Some w) b)
+more_cons index w a b true e = refl
+more_cons index w a b false e = e
 
-pub by_more : (n : ℕ) (ts : List Txn) (t : Txn) (tables : List Table) → t.rows ≡ [] → waiting_by (txn_at n (ts ++ t ∷ [])) tables ≡ waiting_by (txn_at n ts) tables
-by_more n [] t tables e = by_none n t tables e
-by_more n (u ∷ us) t tables e = by_cons u (txn_at n (us ++ t ∷ [])) (txn_at n us) tables (nat_eq u.id n) (by_more n us t tables e)
+pub waiting_more : (n index : ℕ) (ws : List WaitingRows) (w : WaitingRows) → w.sets ≡ [] ∷ [] → waiting_for n index (ws ++ w ∷ []) ≡ waiting_for n index ws
+waiting_more n index [] w e = with_more n index w e
+waiting_more n index (x ∷ xs) w e = more_cons index x (find (λ y. nat_eq y.txn n) (xs ++ w ∷ [])) (find (λ y. nat_eq y.txn n) xs) (nat_eq x.txn n) (waiting_more n index xs w e)
 
--- what is given to one number
-given_cons : (id n : ℕ) (rows : List (List Cell)) (w : WaitingRows) (a b : Option WaitingRows) (h t : Bool) → nat_eq w.txn id ≡ h → nat_eq w.txn n ≡ t → nat_eq n id ≡ false → waiting_in a ≡ waiting_in b → waiting_in (cond (nat_eq (given id rows w).txn n) (Some (given id rows w)) a) ≡ waiting_in (cond t (Some w) b)
-given_cons id n rows w a b true true e f off k = absurd (let x : w.txn ≡ id = eq_is w.txn id e in let y : w.txn ≡ n = eq_is w.txn n f in let z : nat_eq n id ≡ true = grind (arith, nat_tests) in cc (z, off))
-given_cons id n rows w a b true false e f off k = rw (e, f) k
-given_cons id n rows w a b false t e f off k = rw (e, f) (more_cons n w a b t k)
+by_none : (n index : ℕ) (t : Txn) (tables : List Table) (jobs : List JobInfo) → t.rows ≡ [] → waiting_by (cond (nat_eq t.id n) (Some t) None) index tables jobs ≡ []
+by_none n index t tables jobs e = elim (nat_eq t.id n) as (λ (b : Bool). waiting_by (cond b (Some t) None) index tables jobs ≡ []) [ true ↦ no_rows (table_at t.table tables) jobs index t.id t.rows e | false ↦ refl ]
 
-pub given_other : (id n : ℕ) (rows : List (List Cell)) (ws : List WaitingRows) → nat_eq n id ≡ false → waiting_for n (map (given id rows) ws) ≡ waiting_for n ws
-given_other id n rows [] off = refl
-given_other id n rows (w ∷ ws) off = given_cons id n rows w (find (λ y. nat_eq y.txn n) (map (given id rows) ws)) (find (λ y. nat_eq y.txn n) ws) (nat_eq w.txn id) (nat_eq w.txn n) refl refl off (given_other id n rows ws off)
+by_cons : (index : ℕ) (t : Txn) (a b : Option Txn) (tables : List Table) (jobs : List JobInfo) (h : Bool) → waiting_by a index tables jobs ≡ waiting_by b index tables jobs → waiting_by (cond h (Some t) a) index tables jobs ≡ waiting_by (cond h (Some t) b) index tables jobs
+by_cons index t a b tables jobs true e = refl
+by_cons index t a b tables jobs false e = e
 
-none_cons : (id : ℕ) (w : WaitingRows) (a : Option WaitingRows) (h : Bool) → nat_eq w.txn id ≡ h → waiting_in a ≡ [] → waiting_in (cond (nat_eq (given id [] w).txn id) (Some (given id [] w)) a) ≡ []
-none_cons id w a true e k = rw (e, e) refl
-none_cons id w a false e k = rw (e, e) k
+pub by_more : (n index : ℕ) (ts : List Txn) (t : Txn) (tables : List Table) (jobs : List JobInfo) → t.rows ≡ [] → waiting_by (txn_at n (ts ++ t ∷ [])) index tables jobs ≡ waiting_by (txn_at n ts) index tables jobs
+by_more n index [] t tables jobs e = by_none n index t tables jobs e
+by_more n index (u ∷ us) t tables jobs e = by_cons index u (txn_at n (us ++ t ∷ [])) (txn_at n us) tables jobs (nat_eq u.id n) (by_more n index us t tables jobs e)
 
-pub given_none : (id : ℕ) (ws : List WaitingRows) → waiting_for id (map (given id []) ws) ≡ []
-given_none id [] = refl
-given_none id (w ∷ ws) = none_cons id w (find (λ y. nat_eq y.txn id) (map (given id []) ws)) (nat_eq w.txn id) refl (given_none id ws)
+-- ---- what is given to one number
+given_cons : (id n index : ℕ) (sets : List PlacedRows) (w : WaitingRows) (a b : Option WaitingRows) (h t : Bool) → nat_eq w.txn id ≡ h → nat_eq w.txn n ≡ t → nat_eq n id ≡ false → waiting_found index a ≡ waiting_found index b → waiting_found index (cond (nat_eq (given id sets w).txn n) (Some (given id sets w)) a) ≡ waiting_found index (cond t (Some w) b)
+given_cons id n index sets w a b true true e f off k = absurd (let x : w.txn ≡ id = eq_is w.txn id e in let y : w.txn ≡ n = eq_is w.txn n f in let z : nat_eq n id ≡ true = grind (arith, nat_tests) in cc (z, off))
+given_cons id n index sets w a b true false e f off k = rw (e, f) k
+given_cons id n index sets w a b false t e f off k = rw (e, f) (more_cons index w a b t k)
 
--- a change of one number
-changed_cons : (id n : ℕ) (f : Txn → Txn) (t : Txn) (a b : Option Txn) (tables : List Table) (h k : Bool) → nat_eq t.id id ≡ h → nat_eq t.id n ≡ k → nat_eq n id ≡ false → (f t).id ≡ t.id → waiting_by a tables ≡ waiting_by b tables → waiting_by (cond (nat_eq (changed id f t).id n) (Some (changed id f t)) a) tables ≡ waiting_by (cond k (Some t) b) tables
-changed_cons id n f t a b tables true true e g off same i = absurd (let x : t.id ≡ id = eq_is t.id id e in let y : t.id ≡ n = eq_is t.id n g in let z : nat_eq n id ≡ true = grind (arith, nat_tests) in cc (z, off))
-changed_cons id n f t a b tables true false e g off same i = let miss : nat_eq (f t).id n ≡ false = ap (λ (m : ℕ). nat_eq m n) same ∙ g in rw (e, miss) i
-changed_cons id n f t a b tables false k e g off same i = rw (e, g) (by_cons t a b tables k i)
+given_other : (id n index : ℕ) (sets : List PlacedRows) (ws : List WaitingRows) → nat_eq n id ≡ false → waiting_for n index (map (given id sets) ws) ≡ waiting_for n index ws
+given_other id n index sets [] off = refl
+given_other id n index sets (w ∷ ws) off = given_cons id n index sets w (find (λ y. nat_eq y.txn n) (map (given id sets) ws)) (find (λ y. nat_eq y.txn n) ws) (nat_eq w.txn id) (nat_eq w.txn n) refl refl off (given_other id n index sets ws off)
 
-pub changed_other : (id n : ℕ) (f : Txn → Txn) (ts : List Txn) (tables : List Table) → ((t : Txn) → (f t).id ≡ t.id) → nat_eq n id ≡ false → waiting_by (txn_at n (map (changed id f) ts)) tables ≡ waiting_by (txn_at n ts) tables
-changed_other id n f [] tables same off = refl
-changed_other id n f (t ∷ ts) tables same off = changed_cons id n f t (txn_at n (map (changed id f) ts)) (txn_at n ts) tables (nat_eq t.id id) (nat_eq t.id n) refl refl off (same t) (changed_other id n f ts tables same off)
+none_cons : (id index : ℕ) (w : WaitingRows) (a : Option WaitingRows) (h : Bool) → nat_eq w.txn id ≡ h → waiting_found index a ≡ [] → waiting_found index (cond (nat_eq (given id [] w).txn id) (Some (given id [] w)) a) ≡ []
+none_cons id index w a true e k = rw (e, e) (no_set_at index)
+none_cons id index w a false e k = rw (e, e) k
 
-ended_cons : (id : ℕ) (f : Txn → Txn) (t : Txn) (a : Option Txn) (tables : List Table) (h : Bool) → nat_eq t.id id ≡ h → (f t).id ≡ t.id → (f t).rows ≡ [] → waiting_by a tables ≡ [] → waiting_by (cond (nat_eq (changed id f t).id id) (Some (changed id f t)) a) tables ≡ []
-ended_cons id f t a tables true e same none k = let hit : nat_eq (f t).id id ≡ true = ap (λ (m : ℕ). nat_eq m id) same ∙ e in rw (e, hit) (none_folded (table_at (f t).table tables) (f t).rows none)
-ended_cons id f t a tables false e same none k = rw (e, e) k
+given_none : (id index : ℕ) (ws : List WaitingRows) → waiting_for id index (map (given id []) ws) ≡ []
+given_none id index [] = refl
+given_none id index (w ∷ ws) = none_cons id index w (find (λ y. nat_eq y.txn id) (map (given id []) ws)) (nat_eq w.txn id) refl (given_none id index ws)
 
-pub changed_none : (id : ℕ) (f : Txn → Txn) (ts : List Txn) (tables : List Table) → ((t : Txn) → (f t).id ≡ t.id) → ((t : Txn) → (f t).rows ≡ []) → waiting_by (txn_at id (map (changed id f) ts)) tables ≡ []
-changed_none id f [] tables same none = refl
-changed_none id f (t ∷ ts) tables same none = ended_cons id f t (txn_at id (map (changed id f) ts)) tables (nat_eq t.id id) refl (same t) (none t) (changed_none id f ts tables same none)
+-- ---- a change of one number
+changed_cons : (id n index : ℕ) (f : Txn → Txn) (t : Txn) (a b : Option Txn) (tables : List Table) (jobs : List JobInfo) (h k : Bool) → nat_eq t.id id ≡ h → nat_eq t.id n ≡ k → nat_eq n id ≡ false → (f t).id ≡ t.id → waiting_by a index tables jobs ≡ waiting_by b index tables jobs → waiting_by (cond (nat_eq (changed id f t).id n) (Some (changed id f t)) a) index tables jobs ≡ waiting_by (cond k (Some t) b) index tables jobs
+changed_cons id n index f t a b tables jobs true true e g off same i = absurd (let x : t.id ≡ id = eq_is t.id id e in let y : t.id ≡ n = eq_is t.id n g in let z : nat_eq n id ≡ true = grind (arith, nat_tests) in cc (z, off))
+changed_cons id n index f t a b tables jobs true false e g off same i = let miss : nat_eq (f t).id n ≡ false = ap (λ (m : ℕ). nat_eq m n) same ∙ g in rw (e, miss) i
+changed_cons id n index f t a b tables jobs false k e g off same i = rw (e, g) (by_cons index t a b tables jobs k i)
+
+changed_other : (id n index : ℕ) (f : Txn → Txn) (ts : List Txn) (tables : List Table) (jobs : List JobInfo) → ((t : Txn) → (f t).id ≡ t.id) → nat_eq n id ≡ false → waiting_by (txn_at n (map (changed id f) ts)) index tables jobs ≡ waiting_by (txn_at n ts) index tables jobs
+changed_other id n index f [] tables jobs same off = refl
+changed_other id n index f (t ∷ ts) tables jobs same off = changed_cons id n index f t (txn_at n (map (changed id f) ts)) (txn_at n ts) tables jobs (nat_eq t.id id) (nat_eq t.id n) refl refl off (same t) (changed_other id n index f ts tables jobs same off)
+
+ended_cons : (id index : ℕ) (f : Txn → Txn) (t : Txn) (a : Option Txn) (tables : List Table) (jobs : List JobInfo) (h : Bool) → nat_eq t.id id ≡ h → (f t).id ≡ t.id → (f t).rows ≡ [] → waiting_by a index tables jobs ≡ [] → waiting_by (cond (nat_eq (changed id f t).id id) (Some (changed id f t)) a) index tables jobs ≡ []
+ended_cons id index f t a tables jobs true e same none k = let hit : nat_eq (f t).id id ≡ true = ap (λ (m : ℕ). nat_eq m id) same ∙ e in rw (e, hit) (no_rows (table_at (f t).table tables) jobs index (f t).id (f t).rows none)
+ended_cons id index f t a tables jobs false e same none k = rw (e, e) k
+
+changed_none : (id index : ℕ) (f : Txn → Txn) (ts : List Txn) (tables : List Table) (jobs : List JobInfo) → ((t : Txn) → (f t).id ≡ t.id) → ((t : Txn) → (f t).rows ≡ []) → waiting_by (txn_at id (map (changed id f) ts)) index tables jobs ≡ []
+changed_none id index f [] tables jobs same none = refl
+changed_none id index f (t ∷ ts) tables jobs same none = ended_cons id index f t (txn_at id (map (changed id f) ts)) tables jobs (nat_eq t.id id) refl (same t) (none t) (changed_none id index f ts tables jobs same none)
 
 -- what waits after an end
-pub waiting_ended : (id n : ℕ) (f : Txn → Txn) (ws : List WaitingRows) (ts : List Txn) (tables : List Table) → ((t : Txn) → (f t).id ≡ t.id) → ((t : Txn) → (f t).rows ≡ []) → waiting_for n ws ≡ waiting_by (txn_at n ts) tables → waiting_for n (map (given id []) ws) ≡ waiting_by (txn_at n (map (changed id f) ts)) tables
-waiting_ended id n f ws ts tables same none e = by_eq (nat_eq n id) refl
+pub waiting_ended : (id n index : ℕ) (f : Txn → Txn) (ws : List WaitingRows) (ts : List Txn) (tables : List Table) (jobs : List JobInfo) → ((t : Txn) → (f t).id ≡ t.id) → ((t : Txn) → (f t).rows ≡ []) → waiting_for n index ws ≡ waiting_by (txn_at n ts) index tables jobs → waiting_for n index (map (given id []) ws) ≡ waiting_by (txn_at n (map (changed id f) ts)) index tables jobs
+waiting_ended id n index f ws ts tables jobs same none e = by_eq (nat_eq n id) refl
   where
-    by_eq : (b : Bool) → nat_eq n id ≡ b → waiting_for n (map (given id []) ws) ≡ waiting_by (txn_at n (map (changed id f) ts)) tables
-    by_eq true is = let j : id ≡ n = sym (eq_is n id is) in subst (λ (m : ℕ). waiting_for m (map (given id []) ws) ≡ waiting_by (txn_at m (map (changed id f) ts)) tables) j (given_none id ws ∙ sym (changed_none id f ts tables same none))
-    by_eq false is = given_other id n [] ws is ∙ e ∙ sym (changed_other id n f ts tables same is)
+    by_eq : (b : Bool) → nat_eq n id ≡ b → waiting_for n index (map (given id []) ws) ≡ waiting_by (txn_at n (map (changed id f) ts)) index tables jobs
+    by_eq true is = let j : id ≡ n = sym (eq_is n id is) in subst (λ (m : ℕ). waiting_for m index (map (given id []) ws) ≡ waiting_by (txn_at m (map (changed id f) ts)) index tables jobs) j (given_none id index ws ∙ sym (changed_none id index f ts tables jobs same none))
+    by_eq false is = given_other id n index [] ws is ∙ e ∙ sym (changed_other id n index f ts tables jobs same is)
 
--- what is given to a number that is there
-there_cons : (id : ℕ) (rows : List (List Cell)) (w : WaitingRows) (a : Option WaitingRows) (h : Bool) → nat_eq w.txn id ≡ h → (nat_eq w.txn id ≡ false → waiting_in a ≡ rows) → waiting_in (cond (nat_eq (given id rows w).txn id) (Some (given id rows w)) a) ≡ rows
-there_cons id rows w a true e k = rw (e, e) refl
-there_cons id rows w a false e k = rw (e, e) (k e)
+-- ---- what is given to a number that is there
+there_cons : (id index : ℕ) (sets : List PlacedRows) (w : WaitingRows) (a : Option WaitingRows) (h : Bool) → nat_eq w.txn id ≡ h → (nat_eq w.txn id ≡ false → waiting_found index a ≡ get_or (sets ∷ []) index []) → waiting_found index (cond (nat_eq (given id sets w).txn id) (Some (given id sets w)) a) ≡ get_or (sets ∷ []) index []
+there_cons id index sets w a true e k = rw (e, e) refl
+there_cons id index sets w a false e k = rw (e, e) (k e)
 
 found_tail : (id : ℕ) (u t : Txn) (o : Option Txn) (b : Bool) → nat_eq u.id id ≡ b → b ≡ false → cond b (Some u) o ≡ Some t → o ≡ Some t
 found_tail id u t o true e f g = absurd (cc)
 found_tail id u t o false e f g = g
 
-pub given_there : (id : ℕ) (rows : List (List Cell)) (ws : List WaitingRows) (ts : List Txn) (t : Txn) → map (λ (w : WaitingRows). w.txn) ws ≡ map (λ (t : Txn). t.id) ts → txn_at id ts ≡ Some t → waiting_for id (map (given id rows) ws) ≡ rows
-given_there id rows ws [] t al f = absurd (cc)
-given_there id rows [] (u ∷ us) t al f = absurd (cc)
-given_there id rows (w ∷ ws) (u ∷ us) t al f =
+given_there : (id index : ℕ) (sets : List PlacedRows) (ws : List WaitingRows) (ts : List Txn) (t : Txn) → map (λ (w : WaitingRows). w.txn) ws ≡ map (λ (t : Txn). t.id) ts → txn_at id ts ≡ Some t → waiting_for id index (map (given id sets) ws) ≡ get_or (sets ∷ []) index []
+given_there id index sets ws [] t al f = absurd (cc)
+given_there id index sets [] (u ∷ us) t al f = absurd (cc)
+given_there id index sets (w ∷ ws) (u ∷ us) t al f =
     let same : w.txn ≡ u.id = cc in
     let rest : map (λ (w : WaitingRows). w.txn) ws ≡ map (λ (t : Txn). t.id) us = cc in
-    there_cons id rows w (find (λ y. nat_eq y.txn id) (map (given id rows) ws)) (nat_eq w.txn id) refl
-    (λ off. given_there id rows ws us t rest (found_tail id u t (txn_at id us) (nat_eq u.id id) refl (ap (λ (n : ℕ). nat_eq n id) (sym same) ∙ off) f))
+    there_cons id index sets w (find (λ y. nat_eq y.txn id) (map (given id sets) ws)) (nat_eq w.txn id) refl
+    (λ off. given_there id index sets ws us t rest (found_tail id u t (txn_at id us) (nat_eq u.id id) refl (ap (λ (n : ℕ). nat_eq n id) (sym same) ∙ off) f))
 
 -- what is found after a change of it
 changed_found_cons : (id : ℕ) (f : Txn → Txn) (u t : Txn) (a b : Option Txn) (h : Bool) → nat_eq u.id id ≡ h → (f u).id ≡ u.id → cond h (Some u) b ≡ Some t → (b ≡ Some t → a ≡ Some (f t)) → cond (nat_eq (changed id f u).id id) (Some (changed id f u)) a ≡ Some (f t)
 changed_found_cons id f u t a b true e same g k = let i : u ≡ t = cc in let hit : nat_eq (f u).id id ≡ true = ap (λ (m : ℕ). nat_eq m id) same ∙ e in rw (e, hit) (ap (λ (x : Txn). Some (f x)) i)
 changed_found_cons id f u t a b false e same g k = rw (e, e) (k g)
 
-pub changed_found : (id : ℕ) (f : Txn → Txn) (ts : List Txn) (t : Txn) → ((t : Txn) → (f t).id ≡ t.id) → txn_at id ts ≡ Some t → txn_at id (map (changed id f) ts) ≡ Some (f t)
+changed_found : (id : ℕ) (f : Txn → Txn) (ts : List Txn) (t : Txn) → ((t : Txn) → (f t).id ≡ t.id) → txn_at id ts ≡ Some t → txn_at id (map (changed id f) ts) ≡ Some (f t)
 changed_found id f [] t same g = absurd (cc)
 changed_found id f (u ∷ us) t same g = changed_found_cons id f u t (txn_at id (map (changed id f) us)) (txn_at id us) (nat_eq u.id id) refl (same u) g (changed_found id f us t same)
 
 -- what waits after a Submit
-pub waiting_taken : (id n : ℕ) (f : Txn → Txn) (folded : List (List Cell)) (ws : List WaitingRows) (ts : List Txn) (t : Txn) (tables : List Table) → ((t : Txn) → (f t).id ≡ t.id) → map (λ (w : WaitingRows). w.txn) ws ≡ map (λ (t : Txn). t.id) ts → txn_at id ts ≡ Some t → folded ≡ folded_some (table_at (f t).table tables) (f t).rows → waiting_for n ws ≡ waiting_by (txn_at n ts) tables → waiting_for n (map (given id folded) ws) ≡ waiting_by (txn_at n (map (changed id f) ts)) tables
-waiting_taken id n f folded ws ts t tables same al found is e = by_eq (nat_eq n id) refl
+pub waiting_taken : (id n index : ℕ) (f : Txn → Txn) (sets : List PlacedRows) (ws : List WaitingRows) (ts : List Txn) (t : Txn) (tables : List Table) (jobs : List JobInfo) → ((t : Txn) → (f t).id ≡ t.id) → map (λ (w : WaitingRows). w.txn) ws ≡ map (λ (t : Txn). t.id) ts → txn_at id ts ≡ Some t → get_or (sets ∷ []) index [] ≡ waiting_in (table_at (f t).table tables) jobs index (f t).id (f t).rows → waiting_for n index ws ≡ waiting_by (txn_at n ts) index tables jobs → waiting_for n index (map (given id sets) ws) ≡ waiting_by (txn_at n (map (changed id f) ts)) index tables jobs
+waiting_taken id n index f sets ws ts t tables jobs same al found is e = by_eq (nat_eq n id) refl
   where
-    by_eq : (b : Bool) → nat_eq n id ≡ b → waiting_for n (map (given id folded) ws) ≡ waiting_by (txn_at n (map (changed id f) ts)) tables
-    by_eq true eq = let j : id ≡ n = sym (eq_is n id eq) in subst (λ (m : ℕ). waiting_for m (map (given id folded) ws) ≡ waiting_by (txn_at m (map (changed id f) ts)) tables) j (given_there id folded ws ts t al found ∙ is ∙ ap (λ (o : Option Txn). waiting_by o tables) (sym (changed_found id f ts t same found)))
-    by_eq false eq = given_other id n folded ws eq ∙ e ∙ sym (changed_other id n f ts tables same eq)
+    by_eq : (b : Bool) → nat_eq n id ≡ b → waiting_for n index (map (given id sets) ws) ≡ waiting_by (txn_at n (map (changed id f) ts)) index tables jobs
+    by_eq true eq = let j : id ≡ n = sym (eq_is n id eq) in subst (λ (m : ℕ). waiting_for m index (map (given id sets) ws) ≡ waiting_by (txn_at m (map (changed id f) ts)) index tables jobs) j (given_there id index sets ws ts t al found ∙ is ∙ ap (λ (o : Option Txn). waiting_by o index tables jobs) (sym (changed_found id f ts t same found)))
+    by_eq false eq = given_other id n index sets ws eq ∙ e ∙ sym (changed_other id n index f ts tables jobs same eq)
 
--- a new table changes nothing of what waits
-more_table : (n : ℕ) (x m b : Table) (xs : List Table) (h : Bool) → (table_at n xs ≡ Some b → table_at n (xs ++ m ∷ []) ≡ Some b) → cond h (Some x) (table_at n xs) ≡ Some b → cond h (Some x) (table_at n (xs ++ m ∷ [])) ≡ Some b
-more_table n x m b xs true k e = e
-more_table n x m b xs false k e = k e
+-- ---- a new table changes nothing of what waits, since its number is new
+by_used : (o : Option Txn) (index : ℕ) (tables : List Table) (jobs : List JobInfo) (m : Table) (last : ℕ) → m.number ≡ last + 1 → ((u : Txn) → o ≡ Some u → u.table ≤ last) → waiting_by o index (tables ++ m ∷ []) jobs ≡ waiting_by o index tables jobs
+by_used None index tables jobs m last n h = refl
+by_used (Some u) index tables jobs m last n h =
+    let low = h u refl in
+    let apart : nat_eq m.number u.table ≡ false = grind (arith, nat_tests) in
+    ap (λ (o : Option Table). waiting_in o jobs index u.id u.rows) (made_apart u.table m tables apart)
 
-table_more : (n : ℕ) (tables : List Table) (m b : Table) → table_at n tables ≡ Some b → table_at n (tables ++ m ∷ []) ≡ Some b
-table_more n [] m b e = absurd (cc)
-table_more n (x ∷ xs) m b e = more_table n x m b xs (nat_eq x.number n) (table_more n xs m b) e
-
-there_some : (o : Option Table) (P : Table → Type 0) → There o P → (b : Table) × (o ≡ Some b)
-there_some None P h = absurd h
-there_some (Some b) P h = (b, refl)
-
-by_home : (o : Option Txn) (tables : List Table) (m : Table) → ((u : Txn) → o ≡ Some u → HasHome tables u) → waiting_by o (tables ++ m ∷ []) ≡ waiting_by o tables
-by_home None tables m h = refl
-by_home (Some u) tables m h = let w = there_some (table_at u.table tables) (IsHome u.db u.schema) (h u refl) in ap (λ (o : Option Table). folded_some o u.rows) (table_more u.table tables m w.0 w.1 ∙ sym w.1)
-
-pub waiting_tabled : (n : ℕ) (ts : List Txn) (tables : List Table) (m : Table) → Each (HasHome tables) ts → waiting_by (txn_at n ts) (tables ++ m ∷ []) ≡ waiting_by (txn_at n ts) tables
-waiting_tabled n ts tables m e = by_home (txn_at n ts) tables m (λ u f. each_found (HasHome tables) (λ t. nat_eq t.id n) ts u e f)
-
--- One put in its place is a change of that number.
-low_none : (t : Txn) (us : List Txn) → Each (λ u. t.id < u.id) us → filter (λ u. nat_lt u.id t.id) us ≡ []
-low_none t [] e = refl
-low_none t (u ∷ us) e = let h = e.0 in let low : nat_lt u.id t.id ≡ false = grind (arith, nat_tests) in rw low (low_none t us e.1)
-
-high_all : (t : Txn) (us : List Txn) → Each (λ u. t.id < u.id) us → filter (λ u. nat_lt t.id u.id) us ≡ us
-high_all t [] e = refl
-high_all t (u ∷ us) e = let h = e.0 in let high : nat_lt t.id u.id ≡ true = grind (arith, nat_tests) in rw high (ap (λ (l : List Txn). u ∷ l) (high_all t us e.1))
-
-untouched : (id : ℕ) (f : Txn → Txn) (us : List Txn) → Each (λ u. id < u.id) us → map (changed id f) us ≡ us
-untouched id f [] e = refl
-untouched id f (u ∷ us) e = let h = e.0 in let off : nat_eq u.id id ≡ false = grind (arith, nat_tests) in rw off (ap (λ (l : List Txn). u ∷ l) (untouched id f us e.1))
-
-put_here : (id : ℕ) (f : Txn → Txn) (u y : Txn) (us : List Txn) → nat_eq u.id id ≡ true → y.id ≡ id → f u ≡ y → Each (λ x. u.id < x.id) us → put_txn y (u ∷ us) ≡ map (changed id f) (u ∷ us)
-put_here id f u y us e n is a =
-    let same : u.id ≡ id = eq_is u.id id e in
-    let low : nat_lt u.id y.id ≡ false = grind (arith, nat_tests) in
-    let high : nat_lt y.id u.id ≡ false = grind (arith, nat_tests) in
-    let above : Each (λ x. y.id < x.id) us = each_imp (λ (x : Txn). u.id < x.id) (λ (x : Txn). y.id < x.id) (λ x h. omega (arith, h, n, same)) us a in
-    let above_id : Each (λ x. id < x.id) us = each_imp (λ (x : Txn). u.id < x.id) (λ (x : Txn). id < x.id) (λ x h. omega (arith, h, same)) us a in
-    rw (low, high, e, low_none y us above, high_all y us above, untouched id f us above_id, is) refl
-
-put_later : (id : ℕ) (f : Txn → Txn) (u y : Txn) (us : List Txn) → nat_eq u.id id ≡ false → u.id < y.id → put_txn y us ≡ map (changed id f) us → put_txn y (u ∷ us) ≡ map (changed id f) (u ∷ us)
-put_later id f u y us e lt k =
-    let low : nat_lt u.id y.id ≡ true = grind (arith, nat_tests) in
-    let high : nat_lt y.id u.id ≡ false = grind (arith, nat_tests) in
-    rw (low, high, e) (ap (λ (l : List Txn). u ∷ l) k)
-
-put_by : (id : ℕ) (f : Txn → Txn) (u t y : Txn) (us : List Txn) (b : Bool) → nat_eq u.id id ≡ b → Each (λ x. u.id < x.id) us → cond b (Some u) (txn_at id us) ≡ Some t → y.id ≡ id → f t ≡ y → (txn_at id us ≡ Some t → put_txn y us ≡ map (changed id f) us) → put_txn y (u ∷ us) ≡ map (changed id f) (u ∷ us)
-put_by id f u t y us true e a g n is k = let i : u ≡ t = cc in put_here id f u y us e n (ap f i ∙ is) a
-put_by id f u t y us false e a g n is k =
-    let lt = each_found (λ (x : Txn). u.id < x.id) (λ (x : Txn). nat_eq x.id id) us t a g in
-    let same = found_id id us t g in
-    put_later id f u y us e (omega (arith, lt, same, n)) (k g)
-
-pub put_changed : (id : ℕ) (f : Txn → Txn) (ts : List Txn) (t y : Txn) → Ascends ts → txn_at id ts ≡ Some t → y.id ≡ id → f t ≡ y → put_txn y ts ≡ map (changed id f) ts
-put_changed id f [] t y a found n is = absurd (cc)
-put_changed id f (u ∷ us) t y a found n is = put_by id f u t y us (nat_eq u.id id) refl a.0 found n is (λ g. put_changed id f us t y a.1 g n is)
+pub waiting_tabled : (n index : ℕ) (ts : List Txn) (tables : List Table) (jobs : List JobInfo) (m : Table) (last : ℕ) → m.number ≡ last + 1 → Each (λ (t : Txn). t.table ≤ last) ts → waiting_by (txn_at n ts) index (tables ++ m ∷ []) jobs ≡ waiting_by (txn_at n ts) index tables jobs
+waiting_tabled n index ts tables jobs m last new e = by_used (txn_at n ts) index tables jobs m last new (λ u f. each_found (λ (t : Txn). t.table ≤ last) (λ t. nat_eq t.id n) ts u e f)

@@ -5,14 +5,13 @@ use Rattle.std.specs.Option.{option_copied}
 use Rattle.std.specs.Str.{bytes_eq}
 use Rattle.indexmap.specs.IndexMap.{insert_entry}
 use Rattle.front_laws.proofs.Lists.{each_imp, each_snoc, pairs_snoc}
-use Rattle.front_defs.specs.declared.tablet_lists.TabletLists.{TabletLists}
 use Rattle.front_core.proofs.Tablets.{known_snoc}
 use Rattle.front_defs.specs.declared.catalogue.Table.{Table}
-use Rattle.partitions.specs.LayoutRules.{IsLayout}
 use Rattle.front_defs.specs.Catalogue.{table_named}
 use Rattle.front_core.specs.declared.table_key.TableKey.{TableKey}
 use Rattle.front_laws.specs.Tidy.{Each}
-use Rattle.front_core.specs.Catalogued.{IsCatalogued, IsLaid, Keyed, key_of}
+use Rattle.front_core.specs.Catalogued.{HoldsPlain, IsCatalogued, IsPlainTable, Keyed, key_of}
+use Rattle.front_core.specs.declared.stored_table.StoredTable.{StoredTable}
 
 byte_turned : (x y : ℕ) → nat_eq x y ≡ nat_eq y x
 byte_turned x y = grind arith
@@ -33,22 +32,32 @@ table_is db name [] h = refl
 table_is db name (e ∷ es) h = ap₂ (λ (p : Bool) (q : Option Table). cond p (Some e.1) q) (test_is db name e.0 e.1 h.0) (table_is db name es h.1)
 
 -- a table more
-pub table_more : (es : List (TableKey × Table)) (tablets : List TabletLists) (last next : ℕ) (key : TableKey) (t : Table) (k : TabletLists) → key ≡ key_of t → next ≡ last + 1 → k.table ≡ next → IsLayout t.shape t.layout → IsCatalogued es tablets last → IsCatalogued (es ++ (key, t) ∷ []) (tablets ++ k ∷ []) next
-table_more es tablets last next key t k e n at laid h = record {
+pub table_more : (es : List (TableKey × Table)) (tablets : List StoredTable) (last next : ℕ) (key : TableKey) (t : Table) (k : StoredTable) → key ≡ key_of t → next ≡ last + 1 → k.table ≡ next → IsPlainTable t → IsCatalogued es tablets last → IsCatalogued (es ++ (key, t) ∷ []) (tablets ++ k ∷ []) next
+table_more es tablets last next key t k e n at plain h = record {
   keyed = each_snoc (λ (e : TableKey × Table). e.0 ≡ key_of e.1) es (key, t) h.keyed e;
   known = known_snoc last next tablets k n at h.known;
-  ascends = pairs_snoc (λ (a b : TabletLists). a.table < b.table) tablets k h.ascends (each_imp (λ (a : TabletLists). a.table ≤ last) (λ (a : TabletLists). a.table < k.table) (λ a l. omega (arith, l, n, at)) tablets h.known);
-  laid = each_snoc IsLaid es (key, t) h.laid laid;
+  ascends = pairs_snoc (λ (a b : StoredTable). a.table < b.table) tablets k h.ascends (each_imp (λ (a : StoredTable). a.table ≤ last) (λ (a : StoredTable). a.table < k.table) (λ a l. omega (arith, l, n, at)) tablets h.known);
+  plain = each_snoc HoldsPlain es (key, t) h.plain plain;
 }
 
-found_laid : (b : Bool) (e : TableKey × Table) (o : Option Table) (t : Table) → IsLaid e → cond b (Some e.1) o ≡ Some t → (o ≡ Some t → IsLayout t.shape t.layout) → IsLayout t.shape t.layout
-found_laid true e o t here is later = let same : e.1 ≡ t = cc in subst (λ (x : Table). IsLayout x.shape x.layout) same here
-found_laid false e o t here is later = later is
+found_plain : (b : Bool) (e : TableKey × Table) (o : Option Table) (t : Table) → HoldsPlain e → cond b (Some e.1) o ≡ Some t → (o ≡ Some t → IsPlainTable t) → IsPlainTable t
+found_plain true e o t here is later = let same : e.1 ≡ t = cc in subst (λ (x : Table). IsPlainTable x) same here
+found_plain false e o t here is later = later is
 
--- a table that is found has a layout for its rows
-pub lookup_laid : (test : TableKey → Bool) (es : List (TableKey × Table)) (t : Table) → Each IsLaid es → lookup test es ≡ Some t → IsLayout t.shape t.layout
-lookup_laid test [] t all is = absurd (cc)
-lookup_laid test (e ∷ es) t all is = found_laid (test e.0) e (lookup test es) t all.0 is (lookup_laid test es t all.1)
+-- a table that is found is plain
+pub lookup_plain : (test : TableKey → Bool) (es : List (TableKey × Table)) (t : Table) → Each HoldsPlain es → lookup test es ≡ Some t → IsPlainTable t
+lookup_plain test [] t all is = absurd (cc)
+lookup_plain test (e ∷ es) t all is = found_plain (test e.0) e (lookup test es) t all.0 is (lookup_plain test es t all.1)
+
+-- so is one that is handed out
+pub plain_in : (result : Option (Bor Table)) (found : Option Table) → option_copied result ≡ found → ((t : Table) → found ≡ Some t → IsPlainTable t) → IfSome result (λ t. IsPlainTable t.now)
+plain_in None found e plain = tt
+plain_in (Some t) found e plain = plain t.now (sym e)
+
+-- and each of them
+pub each_plain : (es : List (TableKey × Table)) → Each HoldsPlain es → Each IsPlainTable (values_of es)
+each_plain [] h = tt
+each_plain (e ∷ es) h = (h.0, each_plain es h.1)
 
 absent_step : (b : Bool) (e : TableKey × Table) (es ins : List (TableKey × Table)) (o : Option Table) (key : TableKey) (t : Table) → cond b (Some e.1) o ≡ None → (o ≡ None → ins ≡ es ++ (key, t) ∷ []) → (if b then (e.0, t) ∷ es else e ∷ ins) ≡ e ∷ es ++ (key, t) ∷ []
 absent_step true e es ins o key t h f = absurd (cc)
@@ -58,8 +67,3 @@ absent_step false e es ins o key t h f = ap (λ xs. e ∷ xs) (f h)
 pub put_last : (es : List (TableKey × Table)) (key : TableKey) (t : Table) → lookup (λ k. bytes_eq key.db k.db && bytes_eq key.name k.name) es ≡ None → insert_entry (λ j k. bytes_eq j.db k.db && bytes_eq j.name k.name) es key t ≡ es ++ (key, t) ∷ []
 put_last [] key t h = refl
 put_last (e ∷ es) key t h = absent_step (bytes_eq key.db e.0.db && bytes_eq key.name e.0.name) e es (insert_entry (λ j k. bytes_eq j.db k.db && bytes_eq j.name k.name) es key t) (lookup (λ k. bytes_eq key.db k.db && bytes_eq key.name k.name) es) key t h (put_last es key t)
-
--- so has one that is handed out
-pub laid_in : (result : Option (Bor Table)) (found : Option Table) → option_copied result ≡ found → ((t : Table) → found ≡ Some t → IsLayout t.shape t.layout) → IfSome result (λ t. IsLayout t.now.shape t.now.layout)
-laid_in None found e laid = tt
-laid_in (Some t) found e laid = laid t.now (sym e)

@@ -4,7 +4,7 @@ use Rattle.std.proofs.lemmas.Bool.Decides.{nat_tests}
 use Rattle.std.proofs.lemmas.List.Quantifiers.{position-Some}
 use Rattle.std.proofs.lemmas.Iterator.Adapters.{position_from-zero}
 use Rattle.std.specs.List.{position_from}
-use Rattle.dl_values.specs.declared.cell.Cell.{Cell}
+use Rattle.front_defs.specs.Stored.{PlacedRows}
 use Rattle.front_defs.specs.declared.txn.Txn.{Txn}
 use Rattle.front_defs.specs.Transactions.{changed}
 use Rattle.front_laws.specs.Tidy.{Each}
@@ -71,8 +71,8 @@ misses id g f s ks e = sym (none_touched id g f s ks (missed id ks e))
 pub changed_spares : (id : ℕ) (f : Txn → Txn) → Spares id seen (changed id f)
 changed_spares id f = record { other = λ k e. ap (λ (b : Bool). cond b (f (seen k)) (seen k)) e }
 
-pub given_spares : (id : ℕ) (rows : List (List Cell)) → Spares id waits (given id rows)
-given_spares id rows = record { other = λ k e. ap (λ (b : Bool). cond b (record { txn = k.id; rows = rows }) (waits k)) e }
+pub given_spares : (id : ℕ) (sets : List PlacedRows) → Spares id waits (given id sets)
+given_spares id sets = record { other = λ k e. ap (λ (b : Bool). cond b (record { txn = k.id; sets = sets ∷ [] }) (waits k)) e }
 
 pub binding_spares : (id : ℕ) (s : TxnState) → Spares id binding (finished id s)
 binding_spares id s = record { other = λ k e. ap (λ (b : Bool). cond b (record (binding k) { state = s }) (binding k)) e }
@@ -88,11 +88,11 @@ txns_put id f ks i d k a e at is =
     put_there id seen (changed id f) (changed_spares id f) ks i d k a h.within h.hit
     (is ∙ ap (λ (x : Kept). f (seen x)) at ∙ sym (hit_is (nat_eq (get_or ks i d).id id) (f (seen (get_or ks i d))) (seen (get_or ks i d)) h.hit))
 
-pub waiting_put : (id : ℕ) (rows : List (List Cell)) (ks : List Kept) (i : ℕ) (d k : Kept) → Ascending ks → Some i ≡ position (λ (k : Kept). nat_eq k.id id) ks → d ≡ get_or ks i d → waits k ≡ record { txn = d.id; rows = rows } → map waits (slice_set ks i k) ≡ map (given id rows) (map waits ks)
-waiting_put id rows ks i d k a e at is =
+pub waiting_put : (id : ℕ) (sets : List PlacedRows) (ks : List Kept) (i : ℕ) (d k : Kept) → Ascending ks → Some i ≡ position (λ (k : Kept). nat_eq k.id id) ks → d ≡ get_or ks i d → waits k ≡ record { txn = d.id; sets = sets ∷ [] } → map waits (slice_set ks i k) ≡ map (given id sets) (map waits ks)
+waiting_put id sets ks i d k a e at is =
     let h = first_by id i d ks e in
-    put_there id waits (given id rows) (given_spares id rows) ks i d k a h.within h.hit
-    (is ∙ ap (λ (x : Kept). record { txn = x.id; rows = rows }) at ∙ sym (hit_is (nat_eq (get_or ks i d).id id) (record { txn = (get_or ks i d).id; rows = rows }) (waits (get_or ks i d)) h.hit))
+    put_there id waits (given id sets) (given_spares id sets) ks i d k a h.within h.hit
+    (is ∙ ap (λ (x : Kept). record { txn = x.id; sets = sets ∷ [] }) at ∙ sym (hit_is (nat_eq (get_or ks i d).id id) (record { txn = (get_or ks i d).id; sets = sets ∷ [] }) (waits (get_or ks i d)) h.hit))
 
 -- the labels after it
 pub labels_put : (id : ℕ) (s : TxnState) (ks : List Kept) (i : ℕ) (d k : Kept) → Ascending ks → Some i ≡ position (λ (k : Kept). nat_eq k.id id) ks → d ≡ get_or ks i d → binding k ≡ record (binding d) { state = s } → map binding (slice_set ks i k) ≡ map (finished id s) (map binding ks)

@@ -11,7 +11,7 @@ use Rattle.front_core.specs.declared.kept.Kept.{Kept}
 use Rattle.front_defs.specs.Stands.{WaitingRows, waiting_for}
 use Rattle.front_laws.specs.Tidy.{Each}
 use Rattle.front_laws.proofs.Lists.{each_found}
-use Rattle.front_core.specs.Seen.{seen, waits, folded_in, Ascending, WaitsAs}
+use Rattle.front_core.specs.Seen.{seen, waits, sets_in, Ascending, WaitsAs}
 
 find_cons : {X Y : Type 0} (f : X → Y) (x : X) (o : Option X) (q : Option Y) (b : Bool) → q ≡ option_map f o → cond b (Some (f x)) q ≡ option_map f (cond b (Some x) o)
 find_cons f x o q true e = refl
@@ -34,11 +34,11 @@ pub seen_found : (p : Txn → Bool) (ks : List Kept) (r : Option Kept) → r ≡
 seen_found p ks r e = ap (option_map seen) e ∙ sym (find_map seen p ks)
 
 -- The load that is found waits with its own rows.
-waits_cons : (p : Kept → Bool) (u k : Kept) (us : List Kept) (b : Bool) → Each (λ (v : Kept). u.id < v.id) us → cond b (Some u) (find p us) ≡ Some k → (find p us ≡ Some k → waiting_for k.id (map waits us) ≡ folded_in k.held) → waiting_for k.id (map waits (u ∷ us)) ≡ folded_in k.held
-waits_cons p u k us true e f more = let i : u ≡ k = cc in let same : nat_eq u.id k.id ≡ true = (let j : u.id ≡ k.id = ap (λ (x : Kept). x.id) i in grind (arith, nat_tests)) in rw same (ap (λ (x : Kept). folded_in x.held) i)
+waits_cons : (p : Kept → Bool) (u k : Kept) (us : List Kept) (b : Bool) → Each (λ (v : Kept). u.id < v.id) us → cond b (Some u) (find p us) ≡ Some k → (find p us ≡ Some k → waiting_for k.id 0 (map waits us) ≡ sets_in k.held) → waiting_for k.id 0 (map waits (u ∷ us)) ≡ sets_in k.held
+waits_cons p u k us true e f more = let i : u ≡ k = cc in let same : nat_eq u.id k.id ≡ true = (let j : u.id ≡ k.id = ap (λ (x : Kept). x.id) i in grind (arith, nat_tests)) in rw same (ap (λ (x : Kept). sets_in x.held) i)
 waits_cons p u k us false e f more = let lt = each_found (λ (v : Kept). u.id < v.id) p us k e f in let other : nat_eq u.id k.id ≡ false = grind (arith, nat_tests) in rw other (more f)
 
-pub found_waits : (p : Kept → Bool) (ks : List Kept) (k : Kept) → Ascending ks → find p ks ≡ Some k → waiting_for k.id (map waits ks) ≡ folded_in k.held
+pub found_waits : (p : Kept → Bool) (ks : List Kept) (k : Kept) → Ascending ks → find p ks ≡ Some k → waiting_for k.id 0 (map waits ks) ≡ sets_in k.held
 found_waits p [] k a f = absurd (cc)
 found_waits p (u ∷ us) k a f = waits_cons p u k us (p u) a.0 f (λ g. found_waits p us k a.1 g)
 
@@ -46,7 +46,7 @@ pub due_waits : (p : Kept → Bool) (ks : List Kept) (r : Option (Bor Kept)) →
 due_waits p ks None e = tt
 due_waits p ks (Some k) e = λ a. found_waits p ks k.now a (sym e)
 
-pub waits_now : (ks : List Kept) (r : Option (Bor Kept)) → Ascending ks → IfSome r (λ k. WaitsAs ks k.now) → IfSome r (λ k. waiting_for k.now.id (map waits ks) ≡ folded_in k.now.held)
+pub waits_now : (ks : List Kept) (r : Option (Bor Kept)) → Ascending ks → IfSome r (λ k. WaitsAs ks k.now) → IfSome r (λ k. waiting_for k.now.id 0 (map waits ks) ≡ sets_in k.now.held)
 waits_now ks None a h = tt
 waits_now ks (Some k) a h = h a
 

@@ -1,36 +1,42 @@
 -- The two parts of a front, and what each command makes of them by its reply.
 use Rattle.std.specs.Prelude.{◌≡◌, ℕ, ◌+◌, ◌≤◌, Bool, true, false, cond, List, [], ◌∷◌, ◌++◌, Option, Some, None, map, nat_eq, nat_lt, is_some}
 use Rattle.dl_values.specs.declared.cell.Cell.{Cell}
+use Rattle.schema_models.specs.ShapeView.{ShapeView}
+use Rattle.partitions.specs.LayoutView.{LayoutView}
 use Rattle.rowsets.specs.RowsetView.{rowset_rows}
 use Rattle.labels.specs.declared.txn_state.TxnState.{TxnState}
 use Rattle.labels.specs.declared.txn_state.TxnState.TheVariants as state
 use Rattle.front_defs.specs.declared.catalogue.Table.{Table}
 use Rattle.front_defs.specs.declared.txn.Txn.{Txn}
-use Rattle.front_defs.specs.declared.tablet_lists.TabletLists.{TabletLists}
 use Rattle.front_defs.specs.declared.reply.Placed.{Placed}
 use Rattle.front_defs.specs.declared.reply.Reply.{Reply}
 use Rattle.front_defs.specs.declared.reply.Reply.TheVariants as reply
 use Rattle.front_defs.specs.Catalogue.{new_table, has_db, table_named}
-use Rattle.front_core.specs.declared.defined.Defined.{Defined}
 use Rattle.front_defs.specs.Ids.{range_size}
-use Rattle.front_defs.specs.Stands.{WaitingRows, View, stored_for, lists_in, versions_in, waiting_for}
+use Rattle.front_defs.specs.May.{seen_set}
+use Rattle.front_defs.specs.Stands.{TableTablets, WaitingRows, View, stored_for, waiting_for}
+use Rattle.front_defs.specs.Stored.{PlacedRows}
 use Rattle.front_defs.specs.declared.event.TableMade.{TableMade}
 use Rattle.front_defs.specs.declared.event.TxnBegun.{TxnBegun}
-use Rattle.sql_text.specs.declared.plain_def.PlainDef.{PlainDef}
+use Rattle.sql_text.specs.declared.table_def.TableDef.{TableDef}
+use Rattle.table_defs.specs.Columns.{shape_of}
+use Rattle.table_defs.specs.Defined.{layout_of}
 use Rattle.shadow_writes.specs.declared.built.Mapped.{Mapped}
 use Rattle.shadow_writes.specs.declared.built.Mapped.TheVariants.{Sets}
+use Rattle.shadow_writes.specs.declared.built.TabletRows.{TabletRows}
 use Rattle.front_laws.specs.Tidy.{Each}
 use Rattle.front_defs.specs.Answer.{label_for, placed_for, snapshot_refusals}
-use Rattle.front_defs.specs.Defines.{shape_by, layout_by}
 use Rattle.front_defs.specs.Refusals.{Answers}
 use Rattle.front_defs.specs.Transactions.{changed, begun_txn, due}
+use Rattle.front_core.specs.Catalogued.{IsPlainTable}
+use Rattle.front_core.specs.Tablets.{Stores, base_lists, empty_tablets}
 
 -- the databases, the tables, and what is stored of them
 pub record CatalogueView : Type 0 where
   pub databases : List (List ℕ)
   pub tables : List Table
   pub last_table : ℕ
-  pub tablets : List TabletLists
+  pub tablets : List TableTablets
 
 -- the transactions, what waits of them, and the numbers and places that come next
 pub record TransactionsView : Type 0 where
@@ -41,16 +47,16 @@ pub record TransactionsView : Type 0 where
   pub places : ℕ
 
 -- what waits of the transaction of that number is this now
-abbrev pub given : ℕ → List (List Cell) → WaitingRows → WaitingRows
-given id rows w = cond (nat_eq w.txn id) (record { txn = w.txn; rows = rows }) w
+abbrev pub given : ℕ → List PlacedRows → WaitingRows → WaitingRows
+given id sets w = cond (nat_eq w.txn id) (record { txn = w.txn; sets = sets ∷ [] }) w
 
 -- a table as it is made by its definition
-abbrev pub table_of : List ℕ → List ℕ → Defined → ℕ → Table
-table_of db name d number = new_table (record { db = db; name = name; shape = d.shape; layout = d.layout }) number
+abbrev pub table_of : List ℕ → List ℕ → ShapeView → LayoutView → ℕ → Table
+table_of db name shape layout number = new_table (record { db = db; name = name; shape = shape; layout = layout }) number
 
 -- a table more, of which nothing is stored
-abbrev pub table_added : List ℕ → List ℕ → Defined → CatalogueView → CatalogueView
-table_added db name d v = record v { tables = v.tables ++ table_of db name d (v.last_table + 1) ∷ []; last_table = v.last_table + 1; tablets = v.tablets ++ record { table = v.last_table + 1; versions = 1 ∷ []; lists = [] } ∷ [] }
+abbrev pub table_added : List ℕ → List ℕ → ShapeView → LayoutView → CatalogueView → CatalogueView
+table_added db name shape layout v = record v { tables = v.tables ++ table_of db name shape layout (v.last_table + 1) ∷ []; last_table = v.last_table + 1; tablets = v.tablets ++ empty_tablets (v.last_table + 1) layout ∷ [] }
 
 -- a load begins with the next number, where need be in a new range
 abbrev pub range_for : ℕ → ℕ → ℕ
@@ -75,8 +81,8 @@ places_by (Some p) last = p.place
 abbrev pub submitted_at : Option Placed → List (List Cell) → ℕ → Txn → Txn
 submitted_at placed rows at t = record t { state = state_by placed; since = at; place = place_by placed; told = true; rows = rows }
 
-abbrev pub submitted : ℕ → Option Placed → List (List Cell) → List (List Cell) → ℕ → TransactionsView → TransactionsView
-submitted id placed rows folded at v = record v { txns = map (changed id (submitted_at placed rows at)) v.txns; waiting = map (given id folded) v.waiting; places = places_by placed v.places }
+abbrev pub submitted : ℕ → Option Placed → List (List Cell) → List PlacedRows → ℕ → TransactionsView → TransactionsView
+submitted id placed rows sets at v = record v { txns = map (changed id (submitted_at placed rows at)) v.txns; waiting = map (given id sets) v.waiting; places = places_by placed v.places }
 
 -- an end, which keeps no rows
 abbrev pub ended_at : TxnState → ℕ → Txn → Txn
@@ -93,49 +99,38 @@ published_as (Some t) at v = ended t.id state.Visible at v
 abbrev pub published : ℕ → TransactionsView → TransactionsView
 published at v = published_as (due v.txns) at v
 
--- one list more, and higher versions
-pub record HasList (rows : List (List Cell)) (old new : TabletLists) : Type 0 where
-  pub table : new.table ≡ old.table
-  pub lists : map (λ l. rowset_rows l.value) new.lists ≡ map (λ l. rowset_rows l.value) old.lists ++ rows ∷ []
-  pub versions : new.versions ≡ map (λ v. v + 1) old.versions
-
--- The stored lists of a table get one more, and its versions rise.
-pub record Stores (table : ℕ) (rows : List (List Cell)) (old new : List TabletLists) : Type 0 where
-  pub lists : (t : ℕ) → lists_in (stored_for t new) ≡ cond (nat_eq table t) (lists_in (stored_for t old) ++ rows ∷ []) (lists_in (stored_for t old))
-  pub versions : (t : ℕ) → versions_in (stored_for t new) ≡ cond (nat_eq table t) (map (λ v. v + 1) (versions_in (stored_for t old))) (versions_in (stored_for t old))
-
 -- What each command leaves of what stood, where it is answered well. A name that is there already stays as it is.
 abbrev pub with_db : List ℕ → View → View
 with_db name v = cond (has_db name v.databases) v (record v { databases = v.databases ++ name ∷ [] })
 
 abbrev pub with_new_table : TableMade → View → View
-with_new_table m v = record v { tables = v.tables ++ new_table m (v.last_table + 1) ∷ []; last_table = v.last_table + 1; tablets = v.tablets ++ record { table = v.last_table + 1; versions = 1 ∷ []; lists = [] } ∷ [] }
+with_new_table m v = record v { tables = v.tables ++ new_table m (v.last_table + 1) ∷ []; last_table = v.last_table + 1; tablets = v.tablets ++ empty_tablets (v.last_table + 1) m.layout ∷ [] }
 
-abbrev pub with_table : List ℕ → List ℕ → PlainDef → View → View
-with_table db name def v = cond (is_some (table_named db name v.tables)) v (with_new_table (record { db = db; name = name; shape = shape_by def; layout = layout_by name def }) v)
+abbrev pub with_table : List ℕ → List ℕ → TableDef → View → View
+with_table db name def v = cond (is_some (table_named db name v.tables)) v (with_new_table (record { db = db; name = name; shape = shape_of def; layout = layout_of name def }) v)
 
 -- a load of a table begins
 abbrev pub load_begun : ℕ → Option (List ℕ) → Bool → ℕ → Table → TxnBegun
 load_begun next label two_phase at t = record { txn = next; db = t.db; table = t.number; label = label_for label next; two_phase = two_phase; schema = t.schema; at = at }
 
 abbrev pub with_load : Table → Option (List ℕ) → Bool → ℕ → View → View
-with_load t label two_phase at v = record v { txns = v.txns ++ begun_txn (load_begun v.next label two_phase at t) ∷ []; waiting = v.waiting ++ record { txn = v.next; rows = [] } ∷ []; range = range_for v.range v.next; next = v.next + 1 }
+with_load t label two_phase at v = record v { txns = v.txns ++ begun_txn (load_begun v.next label two_phase at t) ∷ []; waiting = v.waiting ++ record { txn = v.next; sets = [] ∷ [] } ∷ []; range = range_for v.range v.next; next = v.next + 1 }
 
 abbrev pub BeginsLoad : Option Table → Option (List ℕ) → Bool → ℕ → View → View → Type 0
 BeginsLoad None label two_phase at old new = ⊥
 BeginsLoad (Some t) label two_phase at old new = new ≡ with_load t label two_phase at old
 
 -- the rows of a load are taken
-abbrev pub Takes : Option Txn → ℕ → List (List Cell) → List (List Cell) → ℕ → TransactionsView → TransactionsView → Type 0
-Takes None id rows folded at old new = ⊥
-Takes (Some t) id rows folded at old new = new ≡ submitted id (placed_for (Some t) old.txns old.places) rows folded at old
+abbrev pub Takes : Option Txn → ℕ → List (List Cell) → List PlacedRows → ℕ → TransactionsView → TransactionsView → Type 0
+Takes None id rows sets at old new = ⊥
+Takes (Some t) id rows sets at old new = new ≡ submitted id (placed_for (Some t) old.txns old.places) rows sets at old
 
-abbrev pub with_rows : ℕ → Option Placed → List (List Cell) → List (List Cell) → ℕ → View → View
-with_rows id placed rows folded at v = record v { txns = map (changed id (submitted_at placed rows at)) v.txns; waiting = map (given id folded) v.waiting; places = places_by placed v.places }
+abbrev pub with_rows : ℕ → Option Placed → List (List Cell) → List PlacedRows → ℕ → View → View
+with_rows id placed rows sets at v = record v { txns = map (changed id (submitted_at placed rows at)) v.txns; waiting = map (given id sets) v.waiting; places = places_by placed v.places }
 
-abbrev pub TakesRows : Option Txn → ℕ → List (List Cell) → List (List Cell) → ℕ → View → View → Type 0
-TakesRows None id rows folded at old new = ⊥
-TakesRows (Some t) id rows folded at old new = new ≡ with_rows id (placed_for (Some t) old.txns old.places) rows folded at old
+abbrev pub TakesRows : Option Txn → ℕ → List (List Cell) → List PlacedRows → ℕ → View → View → Type 0
+TakesRows None id rows sets at old new = ⊥
+TakesRows (Some t) id rows sets at old new = new ≡ with_rows id (placed_for (Some t) old.txns old.places) rows sets at old
 
 -- a load ends
 abbrev pub with_end : ℕ → TxnState → ℕ → View → View
@@ -145,58 +140,81 @@ abbrev pub EndsLoad : Option Txn → TxnState → ℕ → View → View → Type
 EndsLoad None s at old new = ⊥
 EndsLoad (Some t) s at old new = new ≡ with_end t.id s at old
 
--- the parts of a front
+-- the parts of a front: it has no keeper, no job and no rollup yet
 abbrev pub front_view : CatalogueView → TransactionsView → View
-front_view c t = record { databases = c.databases; tables = c.tables; last_table = c.last_table; txns = t.txns; range = t.range; next = t.next; places = t.places; tablets = c.tablets; waiting = t.waiting; live = 0; broken = false; faults = 0 }
+front_view c t = record {
+  databases = c.databases;
+  tables = c.tables;
+  last_table = c.last_table;
+  txns = t.txns;
+  range = t.range;
+  next = t.next;
+  places = t.places;
+  tablets = c.tablets;
+  waiting = t.waiting;
+  jobs = [];
+  last_job = 0;
+  job_names = [];
+  taken = 0;
+  tasks = [];
+  shadows = [];
+  live = 0;
+  broken = false;
+  records = None;
+  faults = 0;
+}
 
--- no opening and no fault
+-- no opening, no fault, no job and no task
 pub record IsCalm (old new : View) : Type 0 where
   pub live : new.live ≡ old.live
   pub broken : new.broken ≡ old.broken
   pub faults : new.faults ≡ old.faults
+  pub taken : new.taken ≡ old.taken
+  pub jobs : new.jobs ≡ old.jobs
+  pub last_job : new.last_job ≡ old.last_job
+  pub names : new.job_names ≡ old.job_names
+  pub tasks : new.tasks ≡ old.tasks
+  pub shadows : new.shadows ≡ old.shadows
 
--- a front is never broken and has no keeper; what is stored is of known tables, and what waits is of the transactions
+-- A front is never broken, has no keeper and no job; its tables have layouts for their rows and no rollups; what is stored is of known tables, and what waits is of the transactions.
 pub record IsFront (v : View) : Type 0 where
   pub sound : v.broken ≡ false
   pub faultless : v.faults ≡ 0
-  pub known : Each (λ k. k.table ≤ v.last_table) v.tablets
-  pub aligned : map (λ w. w.txn) v.waiting ≡ map (λ t. t.id) v.txns
+  pub jobless : v.jobs ≡ []
+  pub plain : Each IsPlainTable v.tables
+  pub known : Each (λ (k : TableTablets). k.table ≤ v.last_table) v.tablets
+  pub aligned : map (λ (w : WaitingRows). w.txn) v.waiting ≡ map (λ (t : Txn). t.id) v.txns
 
--- what becomes visible is stored, where there are rows
-abbrev pub StoresRows : ℕ → List (List Cell) → List (List Cell) → List TabletLists → List TabletLists → Type 0
-StoresRows table [] folded old new = new ≡ old
-StoresRows table (r ∷ rs) folded old new = Stores table folded old new
+-- what becomes visible is stored: a load for more than one tablet is none that a front takes yet
+abbrev pub StoresSets : ℕ → List PlacedRows → List TableTablets → List TableTablets → Type 0
+StoresSets table [] old new = new ≡ old
+StoresSets table (s ∷ []) old new = Stores table s old new
+StoresSets table (s ∷ t ∷ ss) old new = ⊥
 
 pub record IsPublished (at : ℕ) (old new : View) : Type 0 where
   pub load : Txn
   pub due_is : due old.txns ≡ Some load
-  pub stored : StoresRows load.table load.rows (waiting_for load.id old.waiting) old.tablets new.tablets
+  pub stored : StoresSets load.table (waiting_for load.id 0 old.waiting) old.tablets new.tablets
   pub rest : new ≡ record (with_end load.id state.Visible at old) { tablets = new.tablets }
 
--- the only one of a list
-abbrev pub only_of : {X : Type 0} → List X → Option X
-only_of [] = None
-only_of (x ∷ []) = Some x
-only_of (x ∷ y ∷ xs) = None
+-- what a load was built to for the base, where that is its only target
+abbrev pub sets_by : List Mapped → List PlacedRows
+sets_by (Sets sets ∷ []) = map (λ (s : TabletRows). seen_set s) sets
+sets_by _ = []
 
--- the one tablet of a load with rows, and none of one without
-abbrev pub is_fit : List (List Cell) → List Mapped → Bool
-is_fit [] (Sets [] ∷ []) = true
-is_fit (r ∷ rs) (Sets (s ∷ []) ∷ []) = true
-is_fit _ _ = false
-
-abbrev pub set_rows : List Mapped → List (List Cell)
-set_rows (Sets (s ∷ []) ∷ []) = rowset_rows s.rows.value
-set_rows _ = []
+-- whether a load was built for the base alone
+abbrev pub is_for_base : List Mapped → Bool
+is_for_base (Sets sets ∷ []) = true
+is_for_base _ = false
 
 -- the lists that a snapshot shares are those that are stored
-abbrev pub SharesLists : Table → List TabletLists → Reply → Type 0
-SharesLists t tablets (reply.Snap s) = (s.base ≡ t.shape) × (s.index ≡ t.shape) × (map (λ l. rowset_rows l.value) s.lists ≡ lists_in (stored_for t.number tablets))
+abbrev pub SharesLists : Table → List TableTablets → Reply → Type 0
+SharesLists t tablets (reply.Snap s) = (s.base ≡ t.shape) × (s.index ≡ t.shape) × (map (λ l. rowset_rows l.value) s.lists ≡ base_lists t.layout (stored_for t.number tablets))
 SharesLists t tablets _ = ⊥
 
-abbrev pub SharedFor : Option Table → List TabletLists → Reply → Type 0
+abbrev pub SharedFor : Option Table → List TableTablets → Reply → Type 0
 SharedFor None tablets r = ⊥
 SharedFor (Some t) tablets r = SharesLists t tablets r
 
-abbrev pub Shares : List ℕ → List ℕ → List (List ℕ) → List Table → List TabletLists → Reply → Type 0
+abbrev pub Shares : List ℕ → List ℕ → List (List ℕ) → List Table → List TableTablets → Reply → Type 0
 Shares db table dbs tables tablets r = Answers (snapshot_refusals db table dbs tables) (SharedFor (table_named db table tables) tablets) r

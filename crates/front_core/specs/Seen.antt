@@ -1,11 +1,13 @@
 -- What contracts see of a transaction that is kept, and of the rows that it holds.
-use Rattle.std.specs.Prelude.{◌≡◌, ℕ, map, ◌<◌, Bool, false, List, [], Option, Some, None}
+use Rattle.std.specs.Prelude.{◌≡◌, ℕ, map, ◌<◌, Bool, false, List, [], ◌∷◌, Option, Some, None}
 use Rattle.dl_values.specs.declared.cell.Cell.{Cell}
 use Rattle.labels.specs.declared.txn_state.TxnState.TheVariants as state
-use Rattle.rowsets.specs.RowsetView.{rowset_rows}
+use Rattle.shadow_writes.specs.declared.built.TabletRows.{TabletRows}
 use Rattle.front_defs.specs.declared.catalogue.Table.{Table}
 use Rattle.front_defs.specs.declared.txn.Txn.{Txn}
+use Rattle.front_defs.specs.May.{seen_set}
 use Rattle.front_defs.specs.Stands.{WaitingRows, waiting_for}
+use Rattle.front_defs.specs.Stored.{PlacedRows}
 use Rattle.front_laws.specs.Tidy.{Each, Pairs}
 use Rattle.front_core.specs.declared.kept.Kept.{Kept}
 use Rattle.front_core.specs.declared.kept.Held.{Held}
@@ -15,16 +17,16 @@ abbrev pub rows_in : Option Held → List (List Cell)
 rows_in None = []
 rows_in (Some h) = h.rows
 
--- what it will add to what is stored
-abbrev pub folded_in : Option Held → List (List Cell)
-folded_in None = []
-folded_in (Some h) = rowset_rows h.rowset.value
+-- what the tablets of the base will get of it
+abbrev pub sets_in : Option Held → List PlacedRows
+sets_in None = []
+sets_in (Some h) = map (λ (s : TabletRows). seen_set s) h.sets
 
 abbrev pub seen : Kept → Txn
 seen k = record { id = k.id; db = k.db; table = k.table; label = k.label; state = k.state; since = k.since; two_phase = k.two_phase; schema = k.schema; place = k.place; told = k.told; rows = rows_in k.held }
 
 abbrev pub waits : Kept → WaitingRows
-waits k = record { txn = k.id; rows = folded_in k.held }
+waits k = record { txn = k.id; sets = sets_in k.held ∷ [] }
 
 -- numbers of theirs ascend
 abbrev pub AscendsBy : {X : Type 0} → (X → ℕ) → List X → Type 0
@@ -43,4 +45,4 @@ kept_for id t label two_phase at = record { id = id; db = t.db; table = t.number
 
 -- it waits under its number
 abbrev pub WaitsAs : List Kept → Kept → Type 0
-WaitsAs ks k = Ascending ks → waiting_for k.id (map waits ks) ≡ folded_in k.held
+WaitsAs ks k = Ascending ks → waiting_for k.id 0 (map waits ks) ≡ sets_in k.held

@@ -1,7 +1,8 @@
 // What a load begins with: its label, its plan and what is kept of it.
-ghost use Rattle.std.specs.Prelude.{◌≡◌, IfOk, IfErr, IfSome, None};
+ghost use Rattle.std.specs.Prelude.{◌≡◌, [], IfOk, IfErr, IfSome, None};
 ghost use Rattle.front_defs.specs.Answer.{bad_label, label_for, plan_of};
 ghost use Rattle.front_defs.specs.Gives.{Gives};
+ghost use Rattle.front_defs.specs.History.{outcome, Refused};
 ghost use Rattle.front_core.specs.Refused.{RefusesLabel, held_refusal};
 ghost use Rattle.front_core.specs.Seen.{kept_for};
 
@@ -11,12 +12,14 @@ use dl_values::{Name, NoMemory};
 use front_defs::{Reply, Table};
 use labels::TxnState;
 use shadow_writes::Plan;
+use sqlite_items::Items;
 use std::alloc::Global;
 
 // The label that a load gets, or why the one that it asks for is refused.
 pub fn label_or_refusal(alloc: Global, label: Option<Name>, next: u64) -> Result<Name, Reply>
     ensures ok { IfOk result (λ l. (l ≡ label_for label next) × (bad_label label ≡ None)) }
     ensures err { IfErr result (RefusesLabel label) }
+    ensures refused { IfErr result (λ r. outcome r ≡ Refused) }
     ensures gives { IfErr result Gives }
 {
     match label {
@@ -51,9 +54,15 @@ pub fn used_refusal(holder: Option<(u64, TxnState)>) -> Option<Reply>
     }
 }
 
-// The plan of a load of a table as it is now.
+// Whether a table has one tablet: a load is spread over no more of them yet.
+pub fn has_one_tablet(table: &Table) -> bool {
+    table.layout.parts().len() == 1 && table.layout.buckets() == 1
+}
+
+// The plan of a load of a table as it is now, which has no rollup and no job.
 pub fn plan(alloc: Global, txn: u64, table: &Table) -> Result<Plan, NoMemory>
-    ensures { IfOk result (λ p. p ≡ plan_of txn table.now) }
+    requires { table.now.rollups ≡ [] }
+    ensures { IfOk result (λ p. p ≡ plan_of txn table.now []) }
 {
     let layout = table.layout.copy(alloc)?;
     let base = table.shape.copy(alloc)?;
@@ -62,6 +71,7 @@ pub fn plan(alloc: Global, txn: u64, table: &Table) -> Result<Plan, NoMemory>
         schema: table.schema,
         layout,
         base,
+        targets: Items::new(alloc),
     })
 }
 

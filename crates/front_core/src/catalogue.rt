@@ -1,24 +1,31 @@
 // The databases and the tables, and what is stored of the tables.
-ghost use Rattle.std.specs.Prelude.{◌≡◌, ◌&&◌, ◌≤◌, ◌+◌, ℕ, ◌++◌, ◌∷◌, [], map, OnOk, OnErr, IfOk, IfSome, None, false, length, position, nat_eq};
+ghost use Rattle.std.specs.Prelude.{◌≡◌, ◌&&◌, ◌≤◌, ℕ, ◌++◌, ◌∷◌, [], map, OnOk, OnErr, IfOk, IfSome, None, false, find, length, position, nat_eq};
 ghost use Rattle.std.specs.List.{list_any};
 ghost use Rattle.std.specs.Map.{lookup};
 ghost use Rattle.std.specs.Option.{option_copied};
 ghost use Rattle.std.specs.Str.{bytes_eq};
 ghost use Rattle.front_defs.specs.Catalogue as defs;
-ghost use Rattle.front_defs.specs.Stands.{stored_for, lists_in};
+ghost use Rattle.front_defs.specs.May.{seen_set};
+ghost use Rattle.front_defs.specs.Stands.{stored_for};
 ghost use Rattle.partitions.specs.LayoutRules.{IsLayout};
 ghost use Rattle.rowsets.specs.RowsetView.{rowset_rows};
 ghost use Rattle.front_laws.specs.Tidy.{Each};
 ghost use Rattle.front_core.specs.Seen.{AscendsBy};
-ghost use Rattle.front_core.specs.Parts.{HasList, Stores, table_added, table_of};
+ghost use Rattle.front_core.specs.Catalogued.{IsPlainTable};
+ghost use Rattle.front_core.specs.Parts.{table_added, table_of};
+ghost use Rattle.front_core.specs.Tablets.{Stores, base_lists, table_seen};
+ghost use Rattle.front_core.specs.declared.stored_table.StoredTable.{StoredTable};
 
-use crate::defined::Defined;
+use crate::stored_table::StoredTable;
+use crate::storing::{add_set, nothing_stored, shared_lists};
 use crate::table_key::{TableKey, TableRef};
 use dl_values::{Name, NoMemory};
-use front_defs::{SchemaStep, Table, TabletLists};
+use front_defs::{SchemaStep, Table};
 use indexmap::{IndexMap, IndexSet};
+use partitions::Layout;
 use rowsets::Rowset;
 use schema_models::Shape;
+use shadow_writes::TabletRows;
 use sqlite_items::Items;
 use std::alloc::Global;
 use std::marker::Model;
@@ -31,17 +38,20 @@ pub struct Catalogue {
     tables: IndexMap<TableKey, Table>,
     last_table: u64,
     // by ascending number of the table
-    tablets: Vec<TabletLists>,
+    tablets: Vec<StoredTable>,
 }
 
 impl Model for Catalogue {
+    ghost use Rattle.std.specs.Prelude.{map};
     ghost use Rattle.indexmap.specs.IndexMap.{values};
+    ghost use Rattle.front_core.specs.Tablets.{table_seen};
+    ghost use Rattle.front_core.specs.declared.stored_table.StoredTable.{StoredTable};
     ghost use Rattle.front_core.specs.Catalogued.{IsCatalogued};
     ghost use Rattle.front_core.specs.Parts.{CatalogueView};
 
     ghost Value = { CatalogueView };
 
-    ghost view = { λ c. record { databases = c.databases.keys; tables = values c.tables; last_table = c.last_table; tablets = c.tablets.items } };
+    ghost view = { λ c. record { databases = c.databases.keys; tables = values c.tables; last_table = c.last_table; tablets = map (λ (k : StoredTable). table_seen k) c.tablets.items } };
 
     ghost invariant = { λ c. IsCatalogued c.tables.entries c.tablets.items c.last_table };
 }
@@ -58,9 +68,10 @@ impl Catalogue {
         }
     }
 
-    // Does nothing: what is stored is of known tables.
+    // Does nothing: what is stored is of known tables, which have layouts for their rows and no rollups.
     pub fn vouch(&self)
-        ensures { Each (λ k. k.table ≤ self.now.last_table) self.now.tablets }
+        ensures known { Each (λ k. k.table ≤ self.now.last_table) self.now.tablets }
+        ensures plain { Each IsPlainTable self.now.tables }
     {
         let _ = &self.tablets;
     }
@@ -85,7 +96,7 @@ impl Catalogue {
 
     pub fn table(&self, db: &Name, name: &Name) -> Option<&Table>
         ensures is { option_copied result ≡ defs.table_named db.now name.now self.now.tables }
-        ensures laid { IfSome result (λ t. IsLayout t.now.shape t.now.layout) }
+        ensures plain { IfSome result (λ t. IsPlainTable t.now) }
     {
         self.tables.get(TableRef { db, name })
     }
@@ -99,18 +110,19 @@ impl Catalogue {
         put_db(&mut self.databases, name)
     }
 
-    // Adds a table behind the last one. Nothing is stored of it, and its one partition has version 1. Condition: there is
+    // Adds a table behind the last one. Nothing is stored of it, and its partitions have version 1. Condition: there is
     // none of the name. Room is made first, since want of memory has to change nothing.
     pub fn add_table(
         &mut self,
         alloc: Global,
         db: Name,
         name: Name,
-        made: Defined,
+        shape: Shape,
+        layout: Layout,
     ) -> Result<(), NoMemory>
         requires new { defs.table_named db name self.old.tables ≡ None }
-        requires laid { IsLayout made.shape made.layout }
-        ensures ok { OnOk result (self.new ≡ table_added db name made self.old) }
+        requires laid { IsLayout shape layout }
+        ensures ok { OnOk result (self.new ≡ table_added db name shape layout self.old) }
         ensures err { OnErr result (self.new ≡ self.old) }
     {
         let number = match self.last_table.checked_add(1) {
@@ -118,31 +130,31 @@ impl Catalogue {
             None => return Err(NoMemory),
         };
         self.tablets.reserve(1)?;
-        let tablets = new_tablets(alloc, number)?;
+        let tablets = nothing_stored(alloc, number, &shape, &layout)?;
         let key = TableKey::new(alloc, &db, &name)?;
-        let table = new_table(alloc, number, db, name, made)?;
+        let table = new_table(alloc, number, db, name, shape, layout)?;
         put_table(&mut self.tables, key, table)?;
         self.tablets.push(tablets)?;
         self.last_table = number;
         Ok(())
     }
 
-    // Adds a list to what is stored of a table, and raises its versions.
-    pub fn store(&mut self, alloc: Global, table: u64, rowset: &Arc<Rowset>) -> Result<(), NoMemory>
-        ensures ok { OnOk result (Stores table (rowset_rows rowset.now.value) self.old.tablets self.new.tablets) }
+    // Stores the rows of a load in a tablet of a table.
+    pub fn store(&mut self, table: u64, rows: &TabletRows) -> Result<(), NoMemory>
+        ensures ok { OnOk result (Stores table (seen_set rows.now) self.old.tablets self.new.tablets) }
         ensures rest { self.new ≡ record self.old { tablets = self.new.tablets } }
         ensures err { OnErr result (self.new ≡ self.old) }
     {
-        store_in(alloc, &mut self.tablets, table, rowset)
+        store_in(&mut self.tablets, table, rows)
     }
 
     // The lists that are stored of a table, each shared and not copied.
-    pub fn lists(&self, alloc: Global, table: u64) -> Result<Items<Arc<Rowset>>, NoMemory>
-        ensures { IfOk result (λ lists. map (λ l. rowset_rows l.value) lists ≡ lists_in (stored_for table self.now.tablets)) }
+    pub fn lists(&self, alloc: Global, table: &Table) -> Result<Items<Arc<Rowset>>, NoMemory>
+        ensures { IfOk result (λ lists. map (λ l. rowset_rows l.value) lists ≡ base_lists table.now.layout (stored_for table.now.number self.now.tablets)) }
     {
-        match stored_of(&self.tablets, table) {
-            None => Ok(Items::new(alloc)),
-            Some(stored) => shared(alloc, stored.lists.as_slice()),
+        match stored_of(&self.tablets, table.number) {
+            None => Err(NoMemory),
+            Some(stored) => shared_lists(alloc, stored, &table.layout),
         }
     }
 }
@@ -181,40 +193,31 @@ fn new_table(
     number: u64,
     db: Name,
     name: Name,
-    made: Defined,
+    shape: Shape,
+    layout: Layout,
 ) -> Result<Table, NoMemory>
-    ensures { IfOk result (λ t. t ≡ table_of db name made number) }
+    ensures { IfOk result (λ t. t ≡ table_of db name shape layout number) }
 {
-    let shape = made.shape.copy(alloc)?;
+    let first = shape.copy(alloc)?;
     let mut steps = Items::new(alloc);
-    steps.push(SchemaStep { number: 0, shape })?;
+    steps.push(SchemaStep {
+        number: 0,
+        shape: first,
+    })?;
     Ok(Table {
         number,
         db,
         name,
         schema: 0,
-        shape: made.shape,
-        layout: made.layout,
+        shape,
+        layout,
         steps,
         rollups: Items::new(alloc),
     })
 }
 
-// Nothing stored, and version 1 of one partition.
-fn new_tablets(alloc: Global, table: u64) -> Result<TabletLists, NoMemory>
-    ensures { IfOk result (λ k. k ≡ record { table = table; versions = 1 ∷ []; lists = [] }) }
-{
-    let mut versions = Items::new(alloc);
-    versions.push(1)?;
-    Ok(TabletLists {
-        table,
-        versions,
-        lists: Items::new(alloc),
-    })
-}
-
 // The place of what is stored of a table.
-fn place_of(tablets: &[TabletLists], table: u64) -> Option<usize>
+fn place_of(tablets: &[StoredTable], table: u64) -> Option<usize>
     requires { AscendsBy (λ k. k.table) tablets.now }
     ensures { result ≡ position (λ k. nat_eq k.table table) tablets.now }
 {
@@ -224,9 +227,9 @@ fn place_of(tablets: &[TabletLists], table: u64) -> Option<usize>
     }
 }
 
-fn stored_of(tablets: &[TabletLists], table: u64) -> Option<&TabletLists>
+fn stored_of(tablets: &[StoredTable], table: u64) -> Option<&StoredTable>
     requires { AscendsBy (λ k. k.table) tablets.now }
-    ensures { option_copied result ≡ stored_for table tablets.now }
+    ensures { option_copied result ≡ find (λ k. nat_eq k.table table) tablets.now }
 {
     match place_of(tablets, table) {
         None => None,
@@ -234,59 +237,16 @@ fn stored_of(tablets: &[TabletLists], table: u64) -> Option<&TabletLists>
     }
 }
 
-// The same lists, shared.
-fn shared(alloc: Global, lists: &[Arc<Rowset>]) -> Result<Items<Arc<Rowset>>, NoMemory>
-    ensures { IfOk result (λ all. map (λ l. rowset_rows l.value) all ≡ map (λ l. rowset_rows l.value) lists.now) }
-{
-    let mut all = Items::new(alloc);
-    for list in lists {
-        all.push(Arc::clone(list)?)?;
-    }
-    Ok(all)
-}
-
-// Each version one higher.
-fn raised(alloc: Global, versions: &[u64]) -> Result<Items<u64>, NoMemory>
-    ensures { IfOk result (λ v. v ≡ map (λ x. x + 1) versions.now) }
-{
-    let mut all = Items::new(alloc);
-    for version in versions {
-        match version.checked_add(1) {
-            None => return Err(NoMemory),
-            Some(next) => all.push(next)?,
-        }
-    }
-    Ok(all)
-}
-
-// Adds a list, and raises the versions.
-fn add_list(alloc: Global, stored: &mut TabletLists, rowset: &Arc<Rowset>) -> Result<(), NoMemory>
-    ensures ok { OnOk result (HasList (rowset_rows rowset.now.value) stored.old stored.new) }
-    ensures table { stored.new.table ≡ stored.old.table }
-    ensures err { OnErr result (stored.new ≡ stored.old) }
-{
-    let versions = raised(alloc, stored.versions.as_slice())?;
-    let list = Arc::clone(rowset)?;
-    stored.lists.push(list)?;
-    stored.versions = versions;
-    Ok(())
-}
-
-// Adds a list to what is stored of a table, where it is there.
-fn store_in(
-    alloc: Global,
-    tablets: &mut Vec<TabletLists>,
-    table: u64,
-    rowset: &Arc<Rowset>,
-) -> Result<(), NoMemory>
+// Stores the rows of a load in a tablet of a table, where it is there.
+fn store_in(tablets: &mut Vec<StoredTable>, table: u64, rows: &TabletRows) -> Result<(), NoMemory>
     requires { AscendsBy (λ k. k.table) tablets.old.items }
-    ensures ok { OnOk result (Stores table (rowset_rows rowset.now.value) tablets.old.items tablets.new.items) }
-    ensures err { OnErr result (tablets.new.items ≡ tablets.old.items) }
+    ensures ok { OnOk result (Stores table (seen_set rows.now) (map (λ (k : StoredTable). table_seen k) tablets.old.items) (map (λ (k : StoredTable). table_seen k) tablets.new.items)) }
+    ensures err { OnErr result (map (λ (k : StoredTable). table_seen k) tablets.new.items ≡ map (λ (k : StoredTable). table_seen k) tablets.old.items) }
     ensures known { (last : ℕ) → Each (λ k. k.table ≤ last) tablets.old.items → Each (λ k. k.table ≤ last) tablets.new.items }
     ensures ascends { AscendsBy (λ k. k.table) tablets.new.items }
 {
     match place_of(tablets, table) {
         None => Err(NoMemory),
-        Some(i) => add_list(alloc, &mut tablets[i], rowset),
+        Some(i) => add_set(&mut tablets[i], rows),
     }
 }

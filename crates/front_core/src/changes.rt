@@ -6,7 +6,7 @@ ghost use Rattle.front_core.specs.declared.waiter.Waiter.{Waiter};
 ghost use Rattle.front_core.specs.Queue.{IsQueue, IsOpen, binding, slot_at, waiters_by};
 ghost use Rattle.front_core.specs.Parts as parts;
 ghost use Rattle.front_core.specs.Parts.{ended_at, given, submitted_at};
-ghost use Rattle.front_core.specs.Seen.{folded_in, rows_in, seen, waits, Ascending, Below};
+ghost use Rattle.front_core.specs.Seen.{rows_in, seen, sets_in, waits, Ascending, Below};
 
 use crate::finds::place_of;
 use crate::kept::{Held, Kept};
@@ -75,7 +75,7 @@ pub fn end(kept: &mut Vec<Kept>, id: u64, state: TxnState, at: u64)
 pub fn submit(kept: &mut Vec<Kept>, id: u64, held: Option<Held>, placed: Option<Placed>, at: u64)
     requires { Ascending kept.old.items }
     ensures txns { map seen kept.new.items ≡ map (changed id (submitted_at placed (rows_in held) at)) (map seen kept.old.items) }
-    ensures waiting { map waits kept.new.items ≡ map (given id (folded_in held)) (map waits kept.old.items) }
+    ensures waiting { map waits kept.new.items ≡ map (given id (sets_in held)) (map waits kept.old.items) }
     ensures labels { map binding kept.new.items ≡ map (finished id (parts.state_by placed)) (map binding kept.old.items) }
     ensures queue { (q : List Waiter) (last : ℕ) → IfSome placed (λ p. p.place ≡ last + 1) → IsOpen id kept.old.items → IsQueue kept.old.items q last → IsQueue kept.new.items (q ++ waiters_by placed id) (parts.places_by placed last) }
     ensures ascends { Ascending kept.new.items }

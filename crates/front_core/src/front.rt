@@ -4,7 +4,7 @@ ghost use Rattle.front_defs.specs.Answer.{Aborts, Begins, CreatesDb, CreatesTabl
 ghost use Rattle.front_defs.specs.History.{outcome, Well, Refused, Faulted};
 ghost use Rattle.front_defs.specs.Catalogue.{table_named};
 ghost use Rattle.front_defs.specs.Transactions.{txn_at, txn_by};
-ghost use Rattle.front_core.specs.Parts.{BeginsLoad, EndsLoad, IsCalm, IsFront, IsPublished, TakesRows, Shares, is_fit, set_rows, with_db, with_table};
+ghost use Rattle.front_core.specs.Parts.{BeginsLoad, EndsLoad, IsCalm, IsFront, IsPublished, TakesRows, Shares, front_view, is_for_base, sets_by, with_db, with_table};
 ghost use Rattle.front_defs.specs.Gives.{Gives};
 ghost use Rattle.front_defs.specs.declared.history.Entry.{Entry};
 ghost use Rattle.front_defs.specs.declared.history.Entry.TheVariants.{Made};
@@ -14,9 +14,9 @@ ghost use Rattle.front_defs.specs.Stands.{Stands};
 ghost use Rattle.front_core.specs.Made.{made};
 ghost use Rattle.labels.specs.declared.txn_state.TxnState.TheVariants as state;
 
-use crate::begins::{begun, label_or_refusal, plan, used_refusal};
+use crate::begins::{begun, has_one_tablet, label_or_refusal, plan, used_refusal};
 use crate::catalogue::Catalogue;
-use crate::defined::define;
+use crate::defined::defined;
 use crate::fitting::held_of;
 use crate::stored::{snapshot_of, store_held};
 use crate::transactions::Transactions;
@@ -27,7 +27,7 @@ use front_laws::laws;
 use labels::TxnState;
 use schema_models::is_name;
 use shadow_writes::Built;
-use sql_text::PlainDef;
+use sql_text::TableDef;
 use std::alloc::Global;
 use std::marker::Model;
 use std::sync::ledger::Ledger;
@@ -55,7 +55,7 @@ impl Model for Front {
 impl Front {
     /// A front without databases.
     pub fn new(alloc: Global) -> Front
-        ensures { result ≡ record { databases = []; tables = []; last_table = 0; txns = []; range = 0; next = 1; places = 0; tablets = []; waiting = []; live = 0; broken = false; faults = 0 } }
+        ensures { result ≡ front_view (record { databases = []; tables = []; last_table = 0; tablets = [] }) (record { txns = []; waiting = []; range = 0; next = 1; places = 0 }) }
     {
         Front {
             alloc,
@@ -99,7 +99,7 @@ impl Front {
         }
     }
 
-    fn create_table(&mut self, db: Name, table: Name, def: PlainDef, if_not_exists: bool) -> Reply
+    fn create_table(&mut self, db: Name, table: Name, def: TableDef, if_not_exists: bool) -> Reply
         ensures answer { CreatesTable db table def if_not_exists self.old.databases self.old.tables result }
         ensures well { outcome result ≡ Well → self.new ≡ with_table db table def self.old }
         ensures kept { outcome result ≡ Refused → self.new ≡ self.old }
@@ -123,11 +123,14 @@ impl Front {
         if self.catalogue.tables() >= MOST {
             return Reply::TooManyTables;
         }
-        let made = match define(self.alloc, &table, def) {
+        let (shape, layout) = match defined(self.alloc, &table, &def) {
             Ok(made) => made,
             Err(refusal) => return refusal,
         };
-        match self.catalogue.add_table(self.alloc, db, table, made) {
+        match self
+            .catalogue
+            .add_table(self.alloc, db, table, shape, layout)
+        {
             Ok(()) => Reply::Done,
             Err(NoMemory) => Reply::NoMemory,
         }
@@ -141,7 +144,7 @@ impl Front {
         two_phase: bool,
         at: u64,
     ) -> Reply
-        ensures answer { Begins db table label self.old.databases self.old.tables self.old.txns self.old.next result }
+        ensures answer { Begins db table label self.old.databases self.old.tables self.old.txns self.old.jobs self.old.next result }
         ensures well { outcome result ≡ Well → BeginsLoad (table_named db table self.old.tables) label two_phase at self.old self.new }
         ensures kept { outcome result ≡ Refused → self.new ≡ self.old }
         ensures works { outcome result ≡ Faulted → ⊥ }
@@ -164,6 +167,9 @@ impl Front {
             None => {}
             Some(refusal) => return refusal,
         }
+        if !has_one_tablet(table) {
+            return Reply::NoMemory;
+        }
         let plan = match plan(self.alloc, txn, table) {
             Ok(plan) => plan,
             Err(NoMemory) => return Reply::NoMemory,
@@ -179,16 +185,17 @@ impl Front {
     }
 
     fn submit(&mut self, txn: u64, built: Built, at: u64) -> Reply
-        ensures answer { is_fit built.rows built.targets ≡ true → Submits txn at self.old.txns self.old.places result }
-        ensures well { outcome result ≡ Well → TakesRows (txn_at txn self.old.txns) txn built.rows (set_rows built.targets) at self.old self.new }
+        ensures answer { Submits txn at self.old.txns self.old.places result }
+        ensures base { outcome result ≡ Well → is_for_base built.targets ≡ true }
+        ensures well { outcome result ≡ Well → TakesRows (txn_at txn self.old.txns) txn built.rows (sets_by built.targets) at self.old self.new }
         ensures kept { outcome result ≡ Refused → self.new ≡ self.old }
         ensures works { outcome result ≡ Faulted → ⊥ }
         ensures gives { Gives result }
         ensures calm { IsCalm self.old self.new }
     {
         match held_of(built) {
-            None => Reply::NoSuchTxn,
-            Some(held) => self.transactions.submit(txn, held, at),
+            None => Reply::NoMemory,
+            Some(held) => self.transactions.submit(txn, Some(held), at),
         }
     }
 
@@ -206,7 +213,7 @@ impl Front {
         };
         let txn = load.id;
         let place = load.place.unwrap_or(0);
-        match store_held(self.alloc, &mut self.catalogue, load) {
+        match store_held(&mut self.catalogue, load) {
             Ok(()) => {
                 self.transactions.publish(at);
                 Reply::Published { txn, place }
@@ -272,7 +279,7 @@ impl Front {
         laws::transactions_have_numbers_of_their_own();
         laws::transactions_are_of_live_tables();
         laws::a_submitted_load_is_of_its_table();
-        laws::stored_lists_fold_to_the_base();
+        laws::stored_lists_fold_to_the_index();
         let _steps = steps;
         match command {
             Command::CreateDb {
@@ -300,6 +307,18 @@ impl Front {
                 table,
                 query: _,
             } => self.snapshot(db, table),
+            // Not built yet.
+            Command::DropTable { .. }
+            | Command::AddPartition { .. }
+            | Command::Commit { .. }
+            | Command::Sweep { .. }
+            | Command::AddAlter { .. }
+            | Command::CancelAlter { .. }
+            | Command::Advance { .. }
+            | Command::Take
+            | Command::Give { .. }
+            | Command::Show { .. }
+            | Command::Restart => Reply::NoMemory,
         }
     }
 }

@@ -2,8 +2,8 @@
 use dl_values::Name;
 use journal_format::EncodedRows;
 use labels::TxnState;
-use rowsets::Rowset;
-use std::sync::Arc;
+use shadow_writes::TabletRows;
+use sqlite_items::Items;
 
 // The transaction of one load, with what its `Txn` has and what its Publish needs.
 #[derive(Drop)]
@@ -21,9 +21,9 @@ pub struct Kept {
     pub held: Option<Held>,
 }
 
-// The rows of a load between its Submit and its end: for the journal, and folded for what is stored.
+// The rows of a load between its Submit and its end: for the journal, and folded for the tablets of the base.
 #[derive(Drop)]
 pub struct Held {
     pub rows: EncodedRows,
-    pub rowset: Arc<Rowset>,
+    pub sets: Items<TabletRows>,
 }

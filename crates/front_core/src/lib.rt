@@ -11,6 +11,8 @@ mod front;
 mod kept;
 mod names;
 mod stored;
+mod stored_table;
+mod storing;
 mod table_key;
 mod transactions;
 mod waiter;

@@ -1,11 +1,13 @@
 // What is stored of a table: a snapshot of it, and the rows of a load more.
-ghost use Rattle.std.specs.Prelude.{◌≡◌, IfOk, IsTrue, OnOk, OnErr};
+ghost use Rattle.std.specs.Prelude.{◌≡◌, IfOk, IsTrue, OnOk, OnErr, map};
 ghost use Rattle.std.specs.List.{AllByRecursion};
 ghost use Rattle.front_defs.specs.Gives.{Gives};
+ghost use Rattle.front_defs.specs.May.{seen_set};
+ghost use Rattle.shadow_writes.specs.declared.built.TabletRows.{TabletRows};
 ghost use Rattle.rowsets.specs.RowsetView.{IsListOf};
 ghost use Rattle.front_defs.specs.declared.reply.Reply.TheVariants as reply;
-ghost use Rattle.front_core.specs.Parts.{SharesLists, StoresRows};
-ghost use Rattle.front_core.specs.Seen.{folded_in, rows_in};
+ghost use Rattle.front_core.specs.Parts.{SharesLists, StoresSets};
+ghost use Rattle.front_core.specs.Seen.{sets_in};
 
 use crate::catalogue::Catalogue;
 use crate::kept::Kept;
@@ -14,6 +16,7 @@ use front_defs::Table;
 use merge_read::Snapshot;
 use rowsets::Rowset;
 use schema_models::Shape;
+use shadow_writes::TabletRows;
 use std::alloc::Global;
 use std::sync::Arc;
 
@@ -28,7 +31,7 @@ pub fn snapshot_of(
 {
     let base = table.shape.copy(alloc)?;
     let index = table.shape.copy(alloc)?;
-    let lists = catalogue.lists(alloc, table.number)?;
+    let lists = catalogue.lists(alloc, table)?;
     // What is handed on is tested: no history that is legal stores a rowset of another shape.
     if are_lists_of(&index, lists.as_slice()) {
         Ok(Snapshot { base, index, lists })
@@ -51,19 +54,26 @@ fn are_lists_of(shape: &Shape, lists: &[Arc<Rowset>]) -> bool
     true
 }
 
-// Adds the rows of a load to what is stored of its table, where it has some.
-pub fn store_held(alloc: Global, catalogue: &mut Catalogue, load: &Kept) -> Result<(), NoMemory>
-    ensures ok { OnOk result (StoresRows load.now.table (rows_in load.now.held) (folded_in load.now.held) catalogue.old.tablets catalogue.new.tablets) }
+// Adds the rows of a load to what is stored of its table. One for more than one tablet is none that was begun here.
+pub fn store_held(catalogue: &mut Catalogue, load: &Kept) -> Result<(), NoMemory>
+    ensures ok { OnOk result (StoresSets load.now.table (sets_in load.now.held) catalogue.old.tablets catalogue.new.tablets) }
     ensures rest { catalogue.new ≡ record catalogue.old { tablets = catalogue.new.tablets } }
     ensures err { OnErr result (catalogue.new ≡ catalogue.old) }
 {
     match &load.held {
         None => Ok(()),
-        Some(held) => {
-            if held.rows.rows().is_empty() {
-                return Ok(());
-            }
-            catalogue.store(alloc, load.table, &held.rowset)
-        }
+        Some(held) => store_sets(catalogue, load.table, held.sets.as_slice()),
+    }
+}
+
+fn store_sets(catalogue: &mut Catalogue, table: u64, sets: &[TabletRows]) -> Result<(), NoMemory>
+    ensures ok { OnOk result (StoresSets table (map (λ (s : TabletRows). seen_set s) sets.now) catalogue.old.tablets catalogue.new.tablets) }
+    ensures rest { catalogue.new ≡ record catalogue.old { tablets = catalogue.new.tablets } }
+    ensures err { OnErr result (catalogue.new ≡ catalogue.old) }
+{
+    match sets {
+        [] => Ok(()),
+        [set] => catalogue.store(table, set),
+        _ => Err(NoMemory),
     }
 }

@@ -11,7 +11,7 @@ ghost use Rattle.front_defs.specs.History.{outcome, Well, Refused, Faulted};
 ghost use Rattle.front_core.specs.Parts as parts;
 ghost use Rattle.front_core.specs.Parts.{Takes, begun, ended, published, range_for, submitted};
 ghost use Rattle.front_core.specs.Queue.{waiters_by};
-ghost use Rattle.front_core.specs.Seen.{folded_in, rows_in, seen, waits};
+ghost use Rattle.front_core.specs.Seen.{rows_in, seen, sets_in, waits};
 
 use crate::kept::{Held, Kept};
 use crate::waiter::Waiter;
@@ -166,7 +166,7 @@ impl Transactions {
     // The committed load of the lowest place.
     pub fn due(&self) -> Option<&Kept>
         ensures value { option_map seen (option_copied result) ≡ due self.now.txns }
-        ensures waits { IfSome result (λ k. waiting_for k.now.id self.now.waiting ≡ folded_in k.now.held) }
+        ensures waits { IfSome result (λ k. waiting_for k.now.id 0 self.now.waiting ≡ sets_in k.now.held) }
     {
         match self.queue.front() {
             None => None,
@@ -243,7 +243,7 @@ impl Transactions {
     ) -> Result<(), NoMemory>
         requires waits { option_map (λ t. is_committed t.state) (txn_at id self.old.txns) ≡ Some false }
         requires place { IfSome placed (λ p. p.place ≡ self.old.places + 1) }
-        ensures ok { OnOk result (self.new ≡ submitted id placed (rows_in held) (folded_in held) at self.old) }
+        ensures ok { OnOk result (self.new ≡ submitted id placed (rows_in held) (sets_in held) at self.old) }
         ensures err { OnErr result (self.new ≡ self.old) }
     {
         put_last(&mut self.queue, placed, id)?;
@@ -257,7 +257,7 @@ impl Transactions {
     pub fn submit(&mut self, id: u64, held: Option<Held>, at: u64) -> Reply
         ensures answer { Submits id at self.old.txns self.old.places result }
         ensures gives { Gives result }
-        ensures well { outcome result ≡ Well → Takes (txn_at id self.old.txns) id (rows_in held) (folded_in held) at self.old self.new }
+        ensures well { outcome result ≡ Well → Takes (txn_at id self.old.txns) id (rows_in held) (sets_in held) at self.old self.new }
         ensures kept { outcome result ≡ Refused → self.new ≡ self.old }
         ensures works { outcome result ≡ Faulted → ⊥ }
     {

@@ -1,14 +1,13 @@
 -- Which histories are legal: told records come first and follow each other, and each call has the answer that what happened before gives it.
-use Rattle.std.specs.Prelude.{◌≡◌, ℕ, ◌+◌, ◌≤◌, Bool, true, false, not, ◌&&◌, List, [], ◌∷◌, None, IfSome, min, nat_le, ◌⊎◌}
+use Rattle.std.specs.Prelude.{◌≡◌, ℕ, ◌+◌, ◌≤◌, Bool, true, false, not, ◌&&◌, List, [], ◌∷◌, IfSome, min, nat_le, ◌⊎◌}
 use Rattle.front_defs.specs.declared.event.Event.{Event}
 use Rattle.front_defs.specs.declared.command.Command.{Command}
 use Rattle.front_defs.specs.declared.reply.Reply.TheVariants as reply
 use Rattle.front_defs.specs.declared.history.Call.{Call}
 use Rattle.front_defs.specs.declared.history.Entry.{Entry}
 use Rattle.front_defs.specs.declared.history.Entry.TheVariants.{Told, Made}
-use Rattle.schema_models.specs.Faults.{first_of}
-use Rattle.front_defs.specs.Answer.{Answer, refusals}
-use Rattle.front_defs.specs.History.{acted, journal, opening, happened, broken_of, last_faults}
+use Rattle.front_defs.specs.Answer.{Answer}
+use Rattle.front_defs.specs.History.{would, journal, opening, happened, broken_of, last_faults, restarts}
 use Rattle.front_defs.specs.Journal.{Follows}
 use Rattle.front_defs.specs.May.{May}
 
@@ -20,22 +19,23 @@ abbrev pub has_any : List Event → Bool
 has_any [] = false
 has_any (e ∷ Es) = true
 
--- the command would be answered well now, and leaves a record
-pub record Appends (Es : List Event) (c : Command) : Type 0 where
-  pub well : first_of (refusals Es c) ≡ None
-  pub tells : has_any (journal (acted Es c)) ≡ true
+-- what the command would make happen now leaves a record, whatever the answer
+abbrev pub Appends : List Event → Command → Type 0
+Appends Es c = has_any (journal (would Es c)) ≡ true
 
 -- The marks of a call.
 pub record IsMarked (c : Call) (H : List Entry) : Type 0 where
   -- `rose` says that the keeper's count of faults rose in the step
   pub rose : c.rose ≡ rises c.faults_in c.faults_out
   -- the keeper is said to have failed only where it did, in a command that appends a record or in an opening
-  pub fault : c.reply ≡ reply.KeeperFault → (c.rose ≡ true) × ((broken_of H ≡ true) ⊎ Appends (opening c.opened (happened H)) c.command)
+  pub fault : c.reply ≡ reply.KeeperFault → (c.rose ≡ true) × ((broken_of H ≡ true) ⊎ (restarts c.command ≡ true) ⊎ Appends (opening c.opened (happened H)) c.command)
   -- a record that reached the keeper all the same is one that the command appends
   pub took : c.took ≡ true → (c.reply ≡ reply.KeeperFault) × ((broken_of H && not c.opened) ≡ false) × Appends (opening c.opened (happened H)) c.command
-  -- a step opens only where the history was broken, and does so before it answers
-  pub opens_only : c.opened ≡ true → broken_of H ≡ true
+  -- a step opens only where the history was broken or where it is asked to, and does so before it answers
+  pub opens_only : c.opened ≡ true → (broken_of H ≡ true) ⊎ (restarts c.command ≡ true)
   pub opens : broken_of H ≡ true → (c.opened ≡ true) ⊎ (c.reply ≡ reply.KeeperFault) ⊎ (c.reply ≡ reply.NoMemory)
+  -- and always where it was asked to and says that it is done
+  pub restarted : restarts c.command ≡ true → c.reply ≡ reply.Done → c.opened ≡ true
   -- the count never falls, and nobody else uses the keeper
   pub later : c.faults_in ≤ c.faults_out
   pub counts : IfSome (last_faults H) (λ n. c.faults_in ≡ n)

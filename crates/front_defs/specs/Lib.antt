@@ -1,10 +1,15 @@
 pub mod Names
 pub mod Refusals
 pub mod Ids
+pub mod Jobs
 pub mod Catalogue
+pub mod Indexes
 pub mod Transactions
 pub mod Stored
-pub mod Defines
+pub mod Words
+pub mod Reports
+pub mod Moves
+pub mod Alters
 pub mod Answer
 pub mod History
 pub mod Journal

@@ -1,24 +1,13 @@
 -- What a turn leaves: the seen list grew by entries of others and then this call, and the own list by this call. Where the command is quiet after what was seen then, the turn visited no stored row.
-use Rattle.std.specs.Prelude.{◌≡◌, ℕ, Bool, false, List, ◌∷◌, ◌++◌}
+use Rattle.std.specs.Prelude.{◌≡◌, ℕ, false, List, ◌∷◌, ◌++◌}
 use Rattle.front_defs.specs.declared.command.Command.{Command}
-use Rattle.front_defs.specs.declared.command.Command.TheVariants as command
 use Rattle.front_defs.specs.declared.reply.Reply.{Reply}
 use Rattle.front_defs.specs.declared.history.Call.{Call}
 use Rattle.front_defs.specs.declared.history.Entry.{Entry}
 use Rattle.front_defs.specs.declared.history.Entry.TheVariants.{Made}
-use Rattle.front_defs.specs.History.{broken_of}
+use Rattle.front_defs.specs.History.{broken_of, restarts}
 
--- a command that opens the service again: none does so far
-abbrev pub restarts : Command → Bool
-restarts (command.CreateDb name if_not_exists) = false
-restarts (command.CreateTable db table def if_not_exists) = false
-restarts (command.Begin db table label two_phase at) = false
-restarts (command.Submit txn built at) = false
-restarts (command.Publish at) = false
-restarts (command.Abort db txn at) = false
-restarts (command.Snapshot db table query) = false
-
--- a command that is answered without a look at a stored row: nothing has to be opened first
+-- a command that is answered without a look at a stored row: nothing has to be opened first, and it opens nothing itself
 pub record IsQuiet (H : List Entry) (c : Command) : Type 0 where
   pub whole : broken_of H ≡ false
   pub stays : restarts c ≡ false

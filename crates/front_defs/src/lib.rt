@@ -2,23 +2,26 @@
 //! are legal.
 #![tactic(auto)]
 
+mod alter_error;
 mod catalogue;
 mod command;
 mod event;
 mod history;
 mod reply;
-mod tablet_lists;
+mod show_what;
 mod turns;
 mod txn;
 
+pub use alter_error::AlterError;
 pub use catalogue::{Rollup, SchemaStep, Table};
-pub use command::{Command, TxnKey};
+pub use command::{AlterDef, Command, TxnKey};
 pub use event::{
-    DbMade, Event, LoadPublished, LoadSubmitted, RangeDrawn, TableMade, TxnAborted, TxnBegun,
-    TxnEnded,
+    Compacted, DbMade, Event, JobAdded, JobCancelled, JobFinished, JobRan, JobWaiting,
+    LoadCommitted, LoadPublished, LoadSubmitted, PartAdded, RangeDrawn, Swept, SweptUntold,
+    TableDropped, TableMade, TaskGiven, TaskTaken, TxnAborted, TxnBegun, TxnEnded, WatershedDrawn,
 };
 pub use history::{Call, Entry};
 pub use reply::{Placed, Reply};
-pub use tablet_lists::TabletLists;
+pub use show_what::ShowWhat;
 pub use turns::Turns;
 pub use txn::Txn;

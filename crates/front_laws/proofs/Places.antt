@@ -1,194 +1,26 @@
 -- The places of the transactions of a legal history.
-use Rattle.std.proofs.Common.{◌≡◌, ℕ, ◌+◌, ◌≤◌, ◌<◌, Bool, true, false, cond, not, ◌&&◌, List, [], ◌∷◌, ◌++◌, Some, None, map, refl, sym, ◌∙◌, ap, arith, subst}
+use Rattle.std.proofs.Common.{◌≡◌, ℕ, ◌+◌, ◌≤◌, ◌<◌, Bool, true, false, cond, not, ◌&&◌, List, [], ◌∷◌, ◌++◌, Some, map, refl, sym, ◌∙◌, ap, arith, subst}
 use Rattle.std.proofs.lemmas.Bool.Decides.{nat_tests}
-use Rattle.std.specs.Prelude.{filter, length, nat_eq, nat_lt, unwrap_or}
+use Rattle.std.specs.Prelude.{filter, nat_eq, nat_lt}
 use Rattle.std.specs.List.{list_any}
 use Rattle.labels.specs.declared.txn_state.TxnState.{TxnState}
 use Rattle.labels.specs.declared.txn_state.TxnState.TheVariants as state
 use Rattle.front_defs.specs.declared.event.Event.{Event}
 use Rattle.front_defs.specs.declared.event.Event.TheVariants as event
-use Rattle.front_defs.specs.declared.event.LoadSubmitted.{LoadSubmitted}
 use Rattle.front_defs.specs.declared.history.Entry.{Entry}
 use Rattle.front_defs.specs.declared.txn.Txn.{Txn}
 use Rattle.front_defs.specs.Ids.{told_ids}
 use Rattle.front_defs.specs.Catalogue.{db_of, tables_of}
-use Rattle.front_defs.specs.Transactions.{is_committed, txn_at, changed, put_txn, begun_txn, submitted_txn, aborted_at, visible_at, place_of, has_lower, due, txns_of, places_of}
+use Rattle.front_defs.specs.Transactions.{is_committed, txn_at, changed, begun_txn, aborted_at, visible_at, committed_at, dropped, dropped_at, dropped_state, expires_by, is_expired, is_over, over_by, sweep, swept_at, place_of, has_lower, due, txns_of, places_of}
 use Rattle.front_defs.specs.History.{happened}
 use Rattle.front_defs.specs.Legal.{Legal}
 use Rattle.front_laws.specs.Tidy.{Each, Pairs, Ascends, Tells, Happens, HasPlace, PlacesDiffer, waiting, PlacesFit}
-use Rattle.front_laws.proofs.Lists.{each_imp, each_both, each_filter, each_map, each_snoc, each_found, each_put, each_at, always, pairs_filter, pairs_map, pairs_snoc, pairs_put, eq_is}
-use Rattle.front_laws.proofs.Tidying.{due_is, due_found, passes}
+use Rattle.front_laws.proofs.Lists.{each_imp, each_both, each_filter, each_map, each_snoc, each_found, each_at, always, pairs_filter, pairs_map, pairs_snoc, eq_is}
+use Rattle.front_laws.proofs.Tidying.{committed_is, due_is, due_found, passes}
 use Rattle.front_laws.proofs.Following.{any_none}
-use Rattle.front_laws.proofs.Histories.{Good, always_holds}
-
--- How many loads wait.
-abbrev one : Txn → ℕ
-one t = cond (is_committed t.state) 1 0
-
-waiting_cons : (t : Txn) (ts : List Txn) → waiting (t ∷ ts) ≡ one t + waiting ts
-waiting_cons t ts = elim (is_committed t.state) as (λ b. length (cond b (t ∷ filter (λ u. is_committed u.state) ts) (filter (λ u. is_committed u.state) ts)) ≡ cond b 1 0 + waiting ts) [ true ↦ omega arith | false ↦ omega arith ]
-
-waiting_append : (xs ys : List Txn) → waiting (xs ++ ys) ≡ waiting xs + waiting ys
-waiting_append [] ys = omega arith
-waiting_append (x ∷ xs) ys = let h = waiting_append xs ys in let j = waiting_cons x (xs ++ ys) in let k = waiting_cons x xs in omega (arith, h, j, k)
-
-filtered_cons : (p : Txn → Bool) (t : Txn) (ts : List Txn) → waiting (filter p (t ∷ ts)) ≡ cond (p t) (one t) 0 + waiting (filter p ts)
-filtered_cons p t ts = elim (p t) as (λ b. waiting (cond b (t ∷ filter p ts) (filter p ts)) ≡ cond b (one t) 0 + waiting (filter p ts)) [ true ↦ waiting_cons t (filter p ts) | false ↦ omega arith ]
-
-split_one : (n : ℕ) (t : Txn) (a b : Bool) → nat_lt t.id n ≡ a → nat_lt n t.id ≡ b → (t.id ≡ n → one t ≡ 0) → cond a (one t) 0 + cond b (one t) 0 ≡ one t
-split_one n t true true e f h = absurd (let z : t.id < n = grind (arith, nat_tests) in let y : n < t.id = grind (arith, nat_tests) in omega (arith, z, y))
-split_one n t true false e f h = omega arith
-split_one n t false true e f h = omega arith
-split_one n t false false e f h = let z : t.id ≡ n = grind (arith, nat_tests) in let y = h z in omega (arith, y)
-
--- those of a number, where they do not wait, are missed by none
-waiting_split : (n : ℕ) (ts : List Txn) → Each (λ t. t.id ≡ n → one t ≡ 0) ts → waiting (filter (λ u. nat_lt u.id n) ts) + waiting (filter (λ u. nat_lt n u.id) ts) ≡ waiting ts
-waiting_split n [] e = omega arith
-waiting_split n (t ∷ ts) e =
-    let h = waiting_split n ts e.1 in
-    let a = filtered_cons (λ u. nat_lt u.id n) t ts in
-    let b = filtered_cons (λ u. nat_lt n u.id) t ts in
-    let c = split_one n t (nat_lt t.id n) (nat_lt n t.id) refl refl e.0 in
-    let d = waiting_cons t ts in
-    omega (arith, h, a, b, c, d)
-
-waiting_put : (y : Txn) (ts : List Txn) → Each (λ t. t.id ≡ y.id → one t ≡ 0) ts → waiting (put_txn y ts) ≡ waiting ts + one y
-waiting_put y ts e =
-    let h = waiting_split y.id ts e in
-    let a = waiting_append (filter (λ u. nat_lt u.id y.id) ts) (y ∷ filter (λ u. nat_lt y.id u.id) ts) in
-    let b = waiting_cons y (filter (λ u. nat_lt y.id u.id) ts) in
-    omega (arith, h, a, b)
-
-waiting_map : (f : Txn → Txn) (ts : List Txn) → Each (λ t. one (f t) ≡ one t) ts → waiting (map f ts) ≡ waiting ts
-waiting_map f [] e = refl
-waiting_map f (t ∷ ts) e = let h = waiting_map f ts e.1 in let a = waiting_cons (f t) (map f ts) in let b = waiting_cons t ts in let c = e.0 in omega (arith, h, a, b, c)
-
-waiting_filter : (p : Txn → Bool) (ts : List Txn) → Each (λ t. p t ≡ false → one t ≡ 0) ts → waiting (filter p ts) ≡ waiting ts
-waiting_filter p [] e = refl
-waiting_filter p (t ∷ ts) e =
-    let h = waiting_filter p ts e.1 in
-    let a = filtered_cons p t ts in
-    let b = waiting_cons t ts in
-    let c = kept_one p t (p t) refl e.0 in
-    omega (arith, h, a, b, c)
-  where
-    kept_one : (p : Txn → Bool) (t : Txn) (b : Bool) → p t ≡ b → (p t ≡ false → one t ≡ 0) → cond b (one t) 0 ≡ one t
-    kept_one p t true e h = refl
-    kept_one p t false e h = sym (h e)
-
-same_above : (f : Txn → Txn) (n : ℕ) (ts : List Txn) → Each (λ u. n < u.id) ts → map (changed n f) ts ≡ ts
-same_above f n [] e = refl
-same_above f n (u ∷ us) e = let i : nat_eq u.id n ≡ false = let h = e.0 in grind (arith, nat_tests) in rw i (ap (λ (l : List Txn). u ∷ l) (same_above f n us e.1))
-
-less_cons : (id : ℕ) (f : Txn → Txn) (u w : Txn) (us : List Txn) (b : Bool) → nat_eq u.id id ≡ b → Each (λ x. u.id < x.id) us → cond b (Some u) (txn_at id us) ≡ Some w → one w ≡ 1 → one (f w) ≡ 0 → (txn_at id us ≡ Some w → waiting (map (changed id f) us) + 1 ≡ waiting us) → waiting (cond b (f u) u ∷ map (changed id f) us) + 1 ≡ waiting (u ∷ us)
-less_cons id f u w us true e a found was now k =
-    let i : u ≡ w = cc in
-    let same_id = eq_is u.id id e in
-    let rest : map (changed id f) us ≡ us = same_above f id us (subst (λ (n : ℕ). Each (λ x. n < x.id) us) same_id a) in
-    let c : waiting (map (changed id f) us) ≡ waiting us = ap waiting rest in
-    let d : one u ≡ 1 = ap one i ∙ was in
-    let g : one (f u) ≡ 0 = ap (λ (x : Txn). one (f x)) i ∙ now in
-    let j = waiting_cons (f u) (map (changed id f) us) in
-    let m = waiting_cons u us in
-    omega (arith, c, d, g, j, m)
-less_cons id f u w us false e a found was now k =
-    let h = k found in
-    let j = waiting_cons u (map (changed id f) us) in
-    let m = waiting_cons u us in
-    omega (arith, h, j, m)
-
--- one load waits no more
-waiting_less : (id : ℕ) (f : Txn → Txn) (ts : List Txn) (w : Txn) → Ascends ts → txn_at id ts ≡ Some w → one w ≡ 1 → one (f w) ≡ 0 → waiting (map (changed id f) ts) + 1 ≡ waiting ts
-waiting_less id f [] w a found was now = absurd (cc)
-waiting_less id f (u ∷ us) w a found was now = less_cons id f u w us (nat_eq u.id id) refl a.0 found was now (λ g. waiting_less id f us w a.1 g was now)
-
--- States and places.
-committed_one : (t : Txn) → t.state ≡ state.Committed → one t ≡ 1
-committed_one t e = ap (λ (s : TxnState). cond (is_committed s) 1 0) e
-
-untold_one : (s : TxnState) (told : Bool) → Tells s told → told ≡ false → is_committed s ≡ false
-untold_one state.Prepare told h e = refl
-untold_one state.Aborted told h e = refl
-untold_one state.Precommitted told h e = absurd (cc (h, e))
-untold_one state.Committed told h e = absurd (cc (h, e))
-untold_one state.Visible told h e = absurd (cc (h, e))
-
-untold_place : (s : TxnState) (told : Bool) (place : ℕ) → Tells s told → told ≡ false → HasPlace s place → place ≡ 0
-untold_place state.Prepare told place h e p = p
-untold_place state.Aborted told place h e p = p
-untold_place state.Precommitted told place h e p = p
-untold_place state.Committed told place h e p = absurd (cc (h, e))
-untold_place state.Visible told place h e p = absurd (cc (h, e))
-
-is_one : (t : Txn) → is_committed t.state ≡ false → one t ≡ 0
-is_one t e = ap (λ (b : Bool). cond b 1 0) e
-
-place_with : (s : TxnState) (place : ℕ) → s ≡ state.Committed → HasPlace s place → 1 ≤ place
-place_with s place e h = subst (λ (x : TxnState). HasPlace x place) e h
-
--- a change of state that keeps places, where no load that waits is touched
-calm : (ts : List Txn) (last id : ℕ) (f : Txn → Txn) → ((t : Txn) → place_of (f t) ≡ place_of t) → ((t : Txn) → (f t).state ≡ state.Aborted) → Each (λ t. t.id ≡ id → (place_of t ≡ 0) × (one t ≡ 0)) ts → PlacesFit ts last → PlacesFit (map (changed id f) ts) last
-calm ts last id f keeps aborts e p =
-    let same : (t : Txn) → place_of (changed id f t) ≡ place_of t = λ t. elim (nat_eq t.id id) as (λ b. place_of (cond b (f t) t) ≡ place_of t) [ true ↦ keeps t | false ↦ refl ] in
-    let count : waiting (map (changed id f) ts) ≡ waiting ts = waiting_map (changed id f) ts (each_imp (λ t. t.id ≡ id → (place_of t ≡ 0) × (one t ≡ 0)) (λ t. one (changed id f t) ≡ one t) (λ t h. calm_one t (nat_eq t.id id) refl h) ts e) in
-    record {
-      have = each_map (λ t. HasPlace t.state (place_of t) × (t.id ≡ id → (place_of t ≡ 0) × (one t ≡ 0))) (λ t. HasPlace t.state (place_of t)) (changed id f) (λ t h. calm_place t (nat_eq t.id id) refl h.0 h.1) ts (each_both (λ t. HasPlace t.state (place_of t)) (λ t. t.id ≡ id → (place_of t ≡ 0) × (one t ≡ 0)) ts p.have e);
-      differ = pairs_map (λ t. Unit {0}) PlacesDiffer (changed id f) (λ t u _ _ h i. same t ∙ h (sym (same t) ∙ i ∙ same u)) ts (always (λ t. Unit {0}) ts (λ t. tt)) p.differ;
-      within = each_map (λ t. place_of t ≤ last) (λ t. place_of t ≤ last) (changed id f) (λ t h. let s = same t in omega (arith, s, h)) ts p.within;
-      lasts = each_map (λ t. t.state ≡ state.Committed → last < place_of t + waiting ts) (λ t. t.state ≡ state.Committed → last < place_of t + waiting (map (changed id f) ts)) (changed id f) (λ t h i. let s = same t in let j = h (calm_state t (nat_eq t.id id) i) in omega (arith, s, j, count)) ts p.lasts;
-    }
-  where
-    calm_one : (t : Txn) (b : Bool) → nat_eq t.id id ≡ b → (t.id ≡ id → (place_of t ≡ 0) × (one t ≡ 0)) → one (cond b (f t) t) ≡ one t
-    calm_one t true e h = let z = h (eq_is t.id id e) in let a : one (f t) ≡ 0 = ap (λ (s : TxnState). cond (is_committed s) 1 0) (aborts t) in a ∙ sym z.1
-    calm_one t false e h = refl
-
-    calm_place : (t : Txn) (b : Bool) → nat_eq t.id id ≡ b → HasPlace t.state (place_of t) → (t.id ≡ id → (place_of t ≡ 0) × (one t ≡ 0)) → HasPlace (cond b (f t) t).state (place_of (cond b (f t) t))
-    calm_place t true e h k = let z = k (eq_is t.id id e) in subst (λ (s : TxnState). HasPlace s (place_of (f t))) (sym (aborts t)) (keeps t ∙ z.0)
-    calm_place t false e h k = h
-
-    calm_state : (t : Txn) (b : Bool) → (cond b (f t) t).state ≡ state.Committed → t.state ≡ state.Committed
-    calm_state t true i = absurd (let z = aborts t in cc (z, i))
-    calm_state t false i = i
-
--- A load that is submitted: where it commits at once it has the next place.
-submitted_place : (two_phase : Bool) (last : ℕ) → HasPlace (cond two_phase state.Precommitted state.Committed) (unwrap_or (cond two_phase None (Some (last + 1))) 0)
-submitted_place true last = refl
-submitted_place false last = omega arith
-
-next_last : (two_phase : Bool) (last : ℕ) → last ≤ cond two_phase last (last + 1)
-next_last true last = omega arith
-next_last false last = omega arith
-
-new_within : (two_phase : Bool) (last : ℕ) → unwrap_or (cond two_phase None (Some (last + 1))) 0 ≤ cond two_phase last (last + 1)
-new_within true last = omega arith
-new_within false last = omega arith
-
-new_apart : (two_phase : Bool) (last place : ℕ) → place ≤ last → place ≡ unwrap_or (cond two_phase None (Some (last + 1))) 0 → place ≡ 0
-new_apart true last place h e = e
-new_apart false last place h e = absurd (omega (arith, h, e))
-
-new_before : (two_phase : Bool) (last place : ℕ) → place ≤ last → unwrap_or (cond two_phase None (Some (last + 1))) 0 ≡ place → unwrap_or (cond two_phase None (Some (last + 1))) 0 ≡ 0
-new_before true last place h e = refl
-new_before false last place h e = absurd (omega (arith, h, e))
-
-still_last : (two_phase : Bool) (last place before now : ℕ) → last < place + before → now ≡ before + cond (is_committed (cond two_phase state.Precommitted state.Committed)) 1 0 → cond two_phase last (last + 1) < place + now
-still_last true last place before now h e = omega (arith, h, e)
-still_last false last place before now h e = omega (arith, h, e)
-
-new_last : (two_phase : Bool) (last before now : ℕ) → now ≡ before + cond (is_committed (cond two_phase state.Precommitted state.Committed)) 1 0 → cond two_phase state.Precommitted state.Committed ≡ state.Committed → cond two_phase last (last + 1) < unwrap_or (cond two_phase None (Some (last + 1))) 0 + now
-new_last true last before now e i = absurd (cc)
-new_last false last before now e i = omega (arith, e)
-
-submitted_fits : (ts : List Txn) (last : ℕ) (s : LoadSubmitted) (db : List ℕ) → Ascends ts → Each (λ t. t.id ≡ s.txn → one t ≡ 0) ts → PlacesFit ts last → PlacesFit (put_txn (submitted_txn s db last) ts) (cond s.two_phase last (last + 1))
-submitted_fits ts last s db a free p =
-    let y = submitted_txn s db last in
-    let count = waiting_put y ts free in
-    record {
-      have = each_put (λ t. HasPlace t.state (place_of t)) y ts (each_imp (λ t. HasPlace t.state (place_of t)) (λ t. (t.id ≡ s.txn → ⊥) → HasPlace t.state (place_of t)) (λ t h _. h) ts p.have) (submitted_place s.two_phase last);
-      differ = pairs_put PlacesDiffer y ts a p.differ (each_imp (λ t. place_of t ≤ last) (λ t. t.id < s.txn → PlacesDiffer t y) (λ t h _ i. new_apart s.two_phase last (place_of t) h i) ts p.within) (each_imp (λ t. place_of t ≤ last) (λ t. s.txn < t.id → PlacesDiffer y t) (λ t h _ i. new_before s.two_phase last (place_of t) h i) ts p.within);
-      within = each_put (λ t. place_of t ≤ cond s.two_phase last (last + 1)) y ts (each_imp (λ t. place_of t ≤ last) (λ t. (t.id ≡ s.txn → ⊥) → place_of t ≤ cond s.two_phase last (last + 1)) (λ t h _. let n = next_last s.two_phase last in omega (arith, n, h)) ts p.within) (new_within s.two_phase last);
-      lasts = each_put (λ t. t.state ≡ state.Committed → cond s.two_phase last (last + 1) < place_of t + waiting (put_txn y ts)) y ts (each_imp (λ t. t.state ≡ state.Committed → last < place_of t + waiting ts) (λ t. (t.id ≡ s.txn → ⊥) → t.state ≡ state.Committed → cond s.two_phase last (last + 1) < place_of t + waiting (put_txn y ts)) (λ t h _ i. still_last s.two_phase last (place_of t) (waiting ts) (waiting (put_txn y ts)) (h i) count) ts p.lasts) (new_last s.two_phase last (waiting ts) (waiting (put_txn y ts)) count);
-    }
+use Rattle.front_laws.proofs.Histories.{always_holds}
+use Rattle.front_laws.proofs.Plans.{Good}
+use Rattle.front_laws.proofs.Waiting.{one, waiting_cons, waiting_append, waiting_map, waiting_filter, same_above, waiting_less, committed_one, untold_one, untold_place, is_one, place_with, calm, submitted_fits}
 
 -- A load that becomes visible: it has the lowest place of those that wait, so the others are the last ones still.
 and_right : (a b : Bool) → (a && b) ≡ true → b ≡ true
@@ -283,6 +115,135 @@ opened_fits ts last tells p =
       lasts = each_filter (λ t. t.state ≡ state.Committed → last < place_of t + waiting (filter told ts)) told ts (each_imp (λ t. t.state ≡ state.Committed → last < place_of t + waiting ts) (λ t. t.state ≡ state.Committed → last < place_of t + waiting (filter told ts)) (λ t h i. let g = h i in omega (arith, g, count)) ts p.lasts);
     }
 
+-- a change that keeps places, and which loads wait
+mapped_fits : (f : Txn → Txn) (ts : List Txn) (last : ℕ) → ((t : Txn) → place_of (f t) ≡ place_of t) → ((t : Txn) → HasPlace t.state (place_of t) → HasPlace (f t).state (place_of t)) → ((t : Txn) → is_committed (f t).state ≡ is_committed t.state) → PlacesFit ts last → PlacesFit (map f ts) last
+mapped_fits f ts last same has waits p =
+    let count : waiting (map f ts) ≡ waiting ts = waiting_map f ts (always (λ t. one (f t) ≡ one t) ts (λ t. ap (λ (b : Bool). cond b 1 0) (waits t))) in
+    record {
+      have = each_map (λ t. HasPlace t.state (place_of t)) (λ t. HasPlace t.state (place_of t)) f (λ t h. subst (λ (n : ℕ). HasPlace (f t).state n) (sym (same t)) (has t h)) ts p.have;
+      differ = pairs_map (λ t. Unit {0}) PlacesDiffer f (λ t u _ _ h i. same t ∙ h (sym (same t) ∙ i ∙ same u)) ts (always (λ t. Unit {0}) ts (λ t. tt)) p.differ;
+      within = each_map (λ t. place_of t ≤ last) (λ t. place_of t ≤ last) f (λ t h. let s = same t in omega (arith, s, h)) ts p.within;
+      lasts = each_map (λ t. t.state ≡ state.Committed → last < place_of t + waiting ts) (λ t. t.state ≡ state.Committed → last < place_of t + waiting (map f ts)) f (λ t h i. let s = same t in let j = h (committed_is t.state (sym (waits t) ∙ ap is_committed i)) in omega (arith, s, j, count)) ts p.lasts;
+    }
+
+-- without some that do not wait
+filtered_fits : (p : Txn → Bool) (ts : List Txn) (last : ℕ) → Each (λ t. p t ≡ false → one t ≡ 0) ts → PlacesFit ts last → PlacesFit (filter p ts) last
+filtered_fits p ts last none k =
+    let count = waiting_filter p ts none in
+    record {
+      have = each_filter (λ t. HasPlace t.state (place_of t)) p ts k.have;
+      differ = pairs_filter PlacesDiffer p ts k.differ;
+      within = each_filter (λ t. place_of t ≤ last) p ts k.within;
+      lasts = each_filter (λ t. t.state ≡ state.Committed → last < place_of t + waiting (filter p ts)) p ts (each_imp (λ t. t.state ≡ state.Committed → last < place_of t + waiting ts) (λ t. t.state ≡ state.Committed → last < place_of t + waiting (filter p ts)) (λ t h i. let g = h i in omega (arith, g, count)) ts k.lasts);
+    }
+
+dropped_place : (s : TxnState) (place : ℕ) → HasPlace s place → HasPlace (dropped_state s) place
+dropped_place state.Prepare place h = h
+dropped_place state.Precommitted place h = h
+dropped_place state.Committed place h = h
+dropped_place state.Visible place h = h
+dropped_place state.Aborted place h = h
+
+dropped_waits : (s : TxnState) → is_committed (dropped_state s) ≡ is_committed s
+dropped_waits state.Prepare = refl
+dropped_waits state.Precommitted = refl
+dropped_waits state.Committed = refl
+dropped_waits state.Visible = refl
+dropped_waits state.Aborted = refl
+
+dropped_fits : (ts : List Txn) (last table at : ℕ) → PlacesFit ts last → PlacesFit (map (dropped table at) ts) last
+dropped_fits ts last table at p =
+    mapped_fits (dropped table at) ts last
+    (λ t. elim (nat_eq t.table table) as (λ b. place_of (cond b (dropped_at at t) t) ≡ place_of t) [ true ↦ refl | false ↦ refl ])
+    (λ t h. elim (nat_eq t.table table) as (λ b. HasPlace (cond b (dropped_at at t) t).state (place_of t)) [ true ↦ dropped_place t.state (place_of t) h | false ↦ h ])
+    (λ t. elim (nat_eq t.table table) as (λ b. is_committed (cond b (dropped_at at t) t).state ≡ is_committed t.state) [ true ↦ dropped_waits t.state | false ↦ refl ]) p
+
+expired_place : (s : TxnState) (since at place : ℕ) → expires_by s since at ≡ true → HasPlace s place → place ≡ 0
+expired_place state.Prepare since at place e h = h
+expired_place state.Precommitted since at place e h = h
+expired_place state.Committed since at place e h = absurd (cc)
+expired_place state.Visible since at place e h = absurd (cc)
+expired_place state.Aborted since at place e h = absurd (cc)
+
+expired_waits : (s : TxnState) (since at : ℕ) → expires_by s since at ≡ true → is_committed s ≡ false
+expired_waits state.Prepare since at e = refl
+expired_waits state.Precommitted since at e = refl
+expired_waits state.Committed since at e = absurd (cc)
+expired_waits state.Visible since at e = absurd (cc)
+expired_waits state.Aborted since at e = absurd (cc)
+
+over_waits : (s : TxnState) (since at : ℕ) → not (over_by s since at) ≡ false → is_committed s ≡ false
+over_waits state.Prepare since at e = refl
+over_waits state.Precommitted since at e = refl
+over_waits state.Committed since at e = absurd (cc)
+over_waits state.Visible since at e = refl
+over_waits state.Aborted since at e = refl
+
+swept_fits : (ts : List Txn) (last at : ℕ) → PlacesFit ts last → PlacesFit (sweep at ts) last
+swept_fits ts last at p =
+    let left : Txn → Bool = λ t. not (is_over at t) in
+    mapped_fits (swept_at at) (filter left ts) last
+    (λ t. elim (is_expired at t) as (λ b. place_of (cond b (aborted_at at t) t) ≡ place_of t) [ true ↦ refl | false ↦ refl ])
+    (λ t h. has t (is_expired at t) refl h) (λ t. waits t (is_expired at t) refl)
+    (filtered_fits left ts last (always (λ t. left t ≡ false → one t ≡ 0) ts (λ t e. is_one t (over_waits t.state t.since at e))) p)
+  where
+    has : (t : Txn) (b : Bool) → is_expired at t ≡ b → HasPlace t.state (place_of t) → HasPlace (cond b (aborted_at at t) t).state (place_of t)
+    has t true e h = expired_place t.state t.since at (place_of t) e h
+    has t false e h = h
+
+    waits : (t : Txn) (b : Bool) → is_expired at t ≡ b → is_committed (cond b (aborted_at at t) t).state ≡ is_committed t.state
+    waits t true e = sym (expired_waits t.state t.since at e)
+    waits t false e = refl
+
+-- A two-phase load that commits: it has the next place.
+more_cons : (id : ℕ) (f : Txn → Txn) (u w : Txn) (us : List Txn) (b : Bool) → nat_eq u.id id ≡ b → Each (λ x. u.id < x.id) us → cond b (Some u) (txn_at id us) ≡ Some w → one w ≡ 0 → one (f w) ≡ 1 → (txn_at id us ≡ Some w → waiting (map (changed id f) us) ≡ waiting us + 1) → waiting (cond b (f u) u ∷ map (changed id f) us) ≡ waiting (u ∷ us) + 1
+more_cons id f u w us true e a found was now k =
+    let i : u ≡ w = cc in
+    let same_id = eq_is u.id id e in
+    let rest : map (changed id f) us ≡ us = same_above f id us (subst (λ (n : ℕ). Each (λ x. n < x.id) us) same_id a) in
+    let c : waiting (map (changed id f) us) ≡ waiting us = ap waiting rest in
+    let d : one u ≡ 0 = ap one i ∙ was in
+    let g : one (f u) ≡ 1 = ap (λ (x : Txn). one (f x)) i ∙ now in
+    let j = waiting_cons (f u) (map (changed id f) us) in
+    let m = waiting_cons u us in
+    omega (arith, c, d, g, j, m)
+more_cons id f u w us false e a found was now k =
+    let h = k found in
+    let j = waiting_cons u (map (changed id f) us) in
+    let m = waiting_cons u us in
+    omega (arith, h, j, m)
+
+waiting_more : (id : ℕ) (f : Txn → Txn) (ts : List Txn) (w : Txn) → Ascends ts → txn_at id ts ≡ Some w → one w ≡ 0 → one (f w) ≡ 1 → waiting (map (changed id f) ts) ≡ waiting ts + 1
+waiting_more id f [] w a found was now = absurd (cc)
+waiting_more id f (u ∷ us) w a found was now = more_cons id f u w us (nat_eq u.id id) refl a.0 found was now (λ g. waiting_more id f us w a.1 g was now)
+
+commit_pair : (last id at : ℕ) (x u : Txn) (b c : Bool) → nat_eq x.id id ≡ b → nat_eq u.id id ≡ c → x.id < u.id → PlacesDiffer x u → place_of x ≤ last → place_of u ≤ last → PlacesDiffer (cond b (committed_at (last + 1) at x) x) (cond c (committed_at (last + 1) at u) u)
+commit_pair last id at x u true true e f lt d p q i = absurd (let m = eq_is x.id id e in let n = eq_is u.id id f in omega (arith, m, n, lt))
+commit_pair last id at x u true false e f lt d p q i = absurd (omega (arith, i, q))
+commit_pair last id at x u false true e f lt d p q i = absurd (omega (arith, i, p))
+commit_pair last id at x u false false e f lt d p q i = d i
+
+commit_differ : (last id at : ℕ) (ts : List Txn) → Ascends ts → Pairs PlacesDiffer ts → Each (λ t. place_of t ≤ last) ts → Pairs PlacesDiffer (map (changed id (committed_at (last + 1) at)) ts)
+commit_differ last id at [] a d w = tt
+commit_differ last id at (x ∷ xs) a d w = (
+  each_map (λ u. ((x.id < u.id) × PlacesDiffer x u) × (place_of u ≤ last)) (PlacesDiffer (changed id (committed_at (last + 1) at) x)) (changed id (committed_at (last + 1) at))
+      (λ u h. commit_pair last id at x u (nat_eq x.id id) (nat_eq u.id id) refl refl h.0.0 h.0.1 w.0 h.1) xs
+      (each_both (λ u. (x.id < u.id) × PlacesDiffer x u) (λ u. place_of u ≤ last) xs (each_both (λ u. x.id < u.id) (PlacesDiffer x) xs a.0 d.0) w.1),
+  commit_differ last id at xs a.1 d.1 w.1,
+)
+
+commit_fits : (ts : List Txn) (last id at : ℕ) (w : Txn) → Ascends ts → txn_at id ts ≡ Some w → w.state ≡ state.Precommitted → PlacesFit ts last → PlacesFit (map (changed id (committed_at (last + 1) at)) ts) (last + 1)
+commit_fits ts last id at w a found is p =
+    let f = committed_at (last + 1) at in
+    let count = waiting_more id f ts w a found (ap (λ (s : TxnState). cond (is_committed s) 1 0) is) refl in
+    record {
+      have = each_map (λ t. HasPlace t.state (place_of t)) (λ t. HasPlace t.state (place_of t)) (changed id f) (λ t h. elim (nat_eq t.id id) as (λ b. HasPlace (cond b (f t) t).state (place_of (cond b (f t) t))) [ true ↦ omega arith | false ↦ h ]) ts p.have;
+      differ = commit_differ last id at ts a p.differ p.within;
+      within = each_map (λ t. place_of t ≤ last) (λ t. place_of t ≤ last + 1) (changed id f) (λ t h. elim (nat_eq t.id id) as (λ b. place_of (cond b (f t) t) ≤ last + 1) [ true ↦ omega arith | false ↦ omega (arith, h) ]) ts p.within;
+      lasts = each_map (λ t. t.state ≡ state.Committed → last < place_of t + waiting ts) (λ t. t.state ≡ state.Committed → last + 1 < place_of t + waiting (map (changed id f) ts)) (changed id f)
+          (λ t h. elim (nat_eq t.id id) as (λ b. (cond b (f t) t).state ≡ state.Committed → last + 1 < place_of (cond b (f t) t) + waiting (map (changed id f) ts)) [ true ↦ (λ i. omega (arith, count)) | false ↦ (λ i. let g = h i in omega (arith, g, count)) ]) ts p.lasts;
+    }
+
 untold_load : (Es : List Event) (id : ℕ) (t : Txn) → t.told ≡ list_any (nat_eq t.id) (told_ids Es) → list_any (nat_eq id) (told_ids Es) ≡ false → Tells t.state t.told → t.id ≡ id → one t ≡ 0
 untold_load Es id t known new tells i = is_one t (untold_one t.state t.told tells (known ∙ ap (λ (n : ℕ). list_any (nat_eq n) (told_ids Es)) i ∙ new))
 
@@ -306,6 +267,20 @@ fits_step (event.TxnEnded x) Es g h p =
     let tells = each_found (λ t. Tells t.state t.told) (λ t. nat_eq t.id x.txn) (txns_of Es) w g.tidy.tells h.1 in
     let place = each_found (λ t. HasPlace t.state (place_of t)) (λ t. nat_eq t.id x.txn) (txns_of Es) w p.have h.1 in
     calm (txns_of Es) (places_of Es) x.txn (aborted_at x.at) (λ t. refl) (λ t. refl) (each_at (λ t. (place_of t ≡ 0) × (one t ≡ 0)) x.txn (txns_of Es) w g.tidy.ascends h.1 (untold_place w.state w.told (place_of w) tells h.2 place, is_one w (untold_one w.state w.told tells h.2))) p
+fits_step (event.PartAdded a) Es g h p = p
+fits_step (event.TableDropped d) Es g h p = dropped_fits (txns_of Es) (places_of Es) d.table d.at p
+fits_step (event.LoadCommitted c) Es g h p = commit_fits (txns_of Es) (places_of Es) c.txn c.at h.0 g.tidy.ascends h.1 h.2.0 p
+fits_step (event.Swept s) Es g h p = swept_fits (txns_of Es) (places_of Es) s.at p
+fits_step (event.SweptUntold s) Es g h p = swept_fits (txns_of Es) (places_of Es) s.at p
+fits_step (event.Compacted c) Es g h p = p
+fits_step (event.JobAdded x) Es g h p = p
+fits_step (event.JobWaiting x) Es g h p = p
+fits_step (event.WatershedDrawn x) Es g h p = p
+fits_step (event.JobRan x) Es g h p = p
+fits_step (event.TaskTaken x) Es g h p = p
+fits_step (event.TaskGiven x) Es g h p = p
+fits_step (event.JobFinished x) Es g h p = p
+fits_step (event.JobCancelled x) Es g h p = p
 fits_step event.Opened Es g h p = opened_fits (txns_of Es) (places_of Es) g.tidy.tells p
 
 pub places_fit : (H : List Entry) → Legal H → PlacesFit (txns_of (happened H)) (places_of (happened H))

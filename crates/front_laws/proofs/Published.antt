@@ -1,5 +1,5 @@
 -- Each transaction is published at most once.
-use Rattle.std.proofs.Common.{◌≡◌, ℕ, Bool, true, false, cond, ◌||◌, List, ◌∷◌, Some, map, refl, sym, ◌∙◌, ap, arith, subst}
+use Rattle.std.proofs.Common.{◌≡◌, ℕ, ◌+◌, Bool, true, false, cond, not, ◌||◌, List, ◌∷◌, Some, map, filter, refl, sym, ◌∙◌, ap, arith, subst}
 use Rattle.std.proofs.lemmas.Bool.Decides.{nat_tests}
 use Rattle.std.specs.Prelude.{nat_eq}
 use Rattle.std.specs.List.{list_any}
@@ -11,14 +11,16 @@ use Rattle.front_defs.specs.declared.history.Entry.{Entry}
 use Rattle.front_defs.specs.declared.txn.Txn.{Txn}
 use Rattle.front_defs.specs.Ids.{told_ids}
 use Rattle.front_defs.specs.Catalogue.{db_of, tables_of}
-use Rattle.front_defs.specs.Transactions.{is_visible, txn_at, changed, begun_txn, submitted_txn, aborted_at, visible_at, txns_of, places_of}
+use Rattle.front_defs.specs.Transactions.{is_visible, txn_at, changed, begun_txn, submitted_txn, aborted_at, visible_at, committed_at, dropped, dropped_at, dropped_state, expires_by, is_expired, is_over, sweep, swept_at, txns_of, places_of}
 use Rattle.front_defs.specs.History.{happened}
 use Rattle.front_defs.specs.Legal.{Legal}
 use Rattle.front_laws.specs.Tidy.{Each, Tells, Happens, published_of, Distinct}
 use Rattle.front_laws.proofs.Lists.{each_imp, each_both, each_filter, each_map, each_snoc, each_found, each_put, each_at, eq_is}
-use Rattle.front_laws.proofs.Tidying.{due_is, due_found, found_told, told_committed, none_told}
+use Rattle.front_laws.proofs.Tidying.{due_is, due_found}
+use Rattle.front_laws.proofs.Keeping.{found_told, told_committed, none_told}
 use Rattle.front_laws.proofs.Following.{any_none, none_any}
-use Rattle.front_laws.proofs.Histories.{Good, always_holds}
+use Rattle.front_laws.proofs.Histories.{always_holds}
+use Rattle.front_laws.proofs.Plans.{Good}
 
 pub record Once (Es : List Event) : Type 0 where
   pub seen : Each (λ t. is_visible t.state ≡ list_any (nat_eq t.id) (published_of Es)) (txns_of Es)
@@ -61,6 +63,37 @@ abort_seen published ts id at unseen e = each_map (λ t. Seen published t × (t.
     one : (t : Txn) (b : Bool) → nat_eq t.id id ≡ b → Seen published t → (t.id ≡ id → is_visible t.state ≡ false) → Seen published (cond b (aborted_at at t) t)
     one t true same h k = sym (k (eq_is t.id id same)) ∙ h
     one t false same h k = h
+
+commit_seen : (published : List ℕ) (ts : List Txn) (id place at : ℕ) → Each (λ t. t.id ≡ id → is_visible t.state ≡ false) ts → Each (Seen published) ts → Each (Seen published) (map (changed id (committed_at place at)) ts)
+commit_seen published ts id place at unseen e = each_map (λ t. Seen published t × (t.id ≡ id → is_visible t.state ≡ false)) (Seen published) (changed id (committed_at place at)) (λ t h. one t (nat_eq t.id id) refl h.0 h.1) ts (each_both (Seen published) (λ t. t.id ≡ id → is_visible t.state ≡ false) ts e unseen)
+  where
+    one : (t : Txn) (b : Bool) → nat_eq t.id id ≡ b → Seen published t → (t.id ≡ id → is_visible t.state ≡ false) → Seen published (cond b (committed_at place at t) t)
+    one t true same h k = sym (k (eq_is t.id id same)) ∙ h
+    one t false same h k = h
+
+dropped_visible : (s : TxnState) → is_visible (dropped_state s) ≡ is_visible s
+dropped_visible state.Prepare = refl
+dropped_visible state.Precommitted = refl
+dropped_visible state.Committed = refl
+dropped_visible state.Visible = refl
+dropped_visible state.Aborted = refl
+
+dropped_seen : (published : List ℕ) (ts : List Txn) (table at : ℕ) → Each (Seen published) ts → Each (Seen published) (map (dropped table at) ts)
+dropped_seen published ts table at e = each_map (Seen published) (Seen published) (dropped table at) (λ t h. elim (nat_eq t.table table) as (λ b. Seen published (cond b (dropped_at at t) t)) [ true ↦ dropped_visible t.state ∙ h | false ↦ h ]) ts e
+
+expired_visible : (s : TxnState) (since at : ℕ) → expires_by s since at ≡ true → is_visible s ≡ false
+expired_visible state.Prepare since at h = refl
+expired_visible state.Precommitted since at h = refl
+expired_visible state.Committed since at h = refl
+expired_visible state.Visible since at h = absurd (cc)
+expired_visible state.Aborted since at h = refl
+
+swept_seen : (published : List ℕ) (ts : List Txn) (at : ℕ) → Each (Seen published) ts → Each (Seen published) (sweep at ts)
+swept_seen published ts at e = each_map (Seen published) (Seen published) (swept_at at) (λ t h. one t (is_expired at t) refl h) (filter (λ t. not (is_over at t)) ts) (each_filter (Seen published) (λ t. not (is_over at t)) ts e)
+  where
+    one : (t : Txn) (b : Bool) → is_expired at t ≡ b → Seen published t → Seen published (cond b (aborted_at at t) t)
+    one t true k h = sym (expired_visible t.state t.since at k) ∙ h
+    one t false k h = h
 
 publish_seen : (published : List ℕ) (ts : List Txn) (id at : ℕ) → Each (Seen published) ts → Each (Seen (id ∷ published)) (map (changed id (visible_at at)) ts)
 publish_seen published ts id at e = each_map (Seen published) (Seen (id ∷ published)) (changed id (visible_at at)) (λ t h. one t (nat_eq t.id id) refl h) ts e
@@ -110,6 +143,24 @@ once_step (event.TxnEnded x) Es g h p =
       told = p.told;
       once = p.once;
     }
+once_step (event.PartAdded a) Es g h p = record { seen = p.seen; told = p.told; once = p.once }
+once_step (event.TableDropped d) Es g h p = record { seen = dropped_seen (published_of Es) (txns_of Es) d.table d.at p.seen; told = p.told; once = p.once }
+once_step (event.LoadCommitted c) Es g h p = record {
+  seen = commit_seen (published_of Es) (txns_of Es) c.txn (places_of Es + 1) c.at (each_at (λ t. is_visible t.state ≡ false) c.txn (txns_of Es) h.0 g.tidy.ascends h.1 (ap is_visible h.2.0)) p.seen;
+  told = p.told;
+  once = p.once;
+}
+once_step (event.Swept s) Es g h p = record { seen = swept_seen (published_of Es) (txns_of Es) s.at p.seen; told = p.told; once = p.once }
+once_step (event.SweptUntold s) Es g h p = record { seen = swept_seen (published_of Es) (txns_of Es) s.at p.seen; told = p.told; once = p.once }
+once_step (event.Compacted c) Es g h p = record { seen = p.seen; told = p.told; once = p.once }
+once_step (event.JobAdded x) Es g h p = record { seen = p.seen; told = p.told; once = p.once }
+once_step (event.JobWaiting x) Es g h p = record { seen = p.seen; told = p.told; once = p.once }
+once_step (event.WatershedDrawn x) Es g h p = record { seen = p.seen; told = p.told; once = p.once }
+once_step (event.JobRan x) Es g h p = record { seen = p.seen; told = p.told; once = p.once }
+once_step (event.TaskTaken x) Es g h p = record { seen = p.seen; told = p.told; once = p.once }
+once_step (event.TaskGiven x) Es g h p = record { seen = p.seen; told = p.told; once = p.once }
+once_step (event.JobFinished x) Es g h p = record { seen = p.seen; told = p.told; once = p.once }
+once_step (event.JobCancelled x) Es g h p = record { seen = p.seen; told = p.told; once = p.once }
 once_step event.Opened Es g h p = record { seen = each_filter (Seen (published_of Es)) (λ t. t.told) (txns_of Es) p.seen; told = p.told; once = p.once }
 
 pub published_once : (H : List Entry) → Legal H → Distinct (published_of (happened H))

@@ -3,12 +3,16 @@ use Rattle.std.specs.Prelude.{◌≡◌, ℕ, Bool, true, false, List, [], ◌�
 use Rattle.dl_values.specs.declared.cell.Cell.{Cell}
 use Rattle.rowsets.specs.RowsetView.{rowset_rows}
 use Rattle.dl_values.specs.declared.cell.Cell.TheVariants as cell
-use Rattle.dl_values.specs.declared.col_type.ColType.TheVariants as kind
 use Rattle.schema_models.specs.declared.model.Model.TheVariants as model
 use Rattle.schema_models.specs.Folds.{fold_of}
-use Rattle.sql_text.specs.declared.plain_def.PlainDef.{PlainDef}
-use Rattle.sql_text.specs.declared.plain_def.PlainColumn.{PlainColumn}
+use Rattle.sql_text.specs.declared.part.Part.{Part}
+use Rattle.sql_text.specs.declared.part.PartBounds.TheVariants.{Less}
+use Rattle.sql_text.specs.declared.table_def.ColumnText.{ColumnText}
+use Rattle.sql_text.specs.declared.table_def.ColumnType.TheVariants as kind
+use Rattle.sql_text.specs.declared.table_def.TableDef.{TableDef}
 use Rattle.sql_text.specs.declared.query.Query.{Query}
+use Rattle.table_defs.specs.Columns.{shape_of}
+use Rattle.table_defs.specs.Defined.{layout_of}
 use Rattle.shadow_writes.specs.declared.plan.Plan.{Plan}
 use Rattle.shadow_writes.specs.declared.built.Built.{Built}
 use Rattle.front_defs.specs.declared.catalogue.Table.{Table}
@@ -20,7 +24,14 @@ use Rattle.front_defs.specs.declared.reply.Reply.TheVariants as reply
 use Rattle.front_defs.specs.declared.history.Call.{Call}
 use Rattle.front_defs.specs.declared.history.Entry.{Entry}
 use Rattle.front_defs.specs.declared.history.Entry.TheVariants.{Made}
-use Rattle.front_defs.specs.Defines.{shape_by, layout_by}
+use Rattle.row_map.specs.declared.map.RowMap.{RowMap}
+use Rattle.row_map.specs.Maps.{rollup_map}
+use Rattle.alter_core.specs.declared.job.JobState.TheVariants as job_state
+use Rattle.history_convert.specs.declared.task.Piece.{Piece}
+use Rattle.history_convert.specs.declared.task.PieceResult.{PieceResult}
+use Rattle.history_convert.specs.declared.task.Task.{Task}
+use Rattle.front_defs.specs.declared.command.AlterDef.TheVariants as alter
+use Rattle.front_defs.specs.Alters.{given_state}
 use Rattle.front_defs.specs.Answer.{Answer}
 use Rattle.front_defs.specs.History.{happened, opening}
 use Rattle.front_defs.specs.Script.{Script, Ends, Asks}
@@ -40,19 +51,19 @@ abbrev pub v : List ℕ
 v = 118 ∷ []
 
 -- `(k INT, v INT) DUPLICATE KEY(k) DISTRIBUTED BY HASH(k) BUCKETS 1`
-abbrev pub int_column : List ℕ → PlainColumn
-int_column name = record { name = name; kind = kind.Int; nullable = true }
+abbrev pub int_column : List ℕ → ColumnText
+int_column name = record { name = name; kind = kind.Int; agg = None; nullable = true; default = None }
 
-abbrev pub def : PlainDef
-def = record { columns = int_column k ∷ int_column v ∷ []; key = Some (record { model = model.Duplicate; names = k ∷ [] }); hash = k ∷ []; buckets = Some 1 }
+abbrev pub def : TableDef
+def = record { columns = int_column k ∷ int_column v ∷ []; key = Some (record { model = model.Duplicate; names = k ∷ [] }); ranges = None; hash = k ∷ []; buckets = Some 1; properties = [] }
 
 -- the plan of a load of the table
 abbrev pub plan : ℕ → Plan
-plan id = record { txn = id; schema = 0; layout = layout_by t def; base = shape_by def }
+plan id = record { txn = id; schema = 0; layout = layout_of t def; base = shape_of def; targets = [] }
 
 -- the table as the catalogue has it
 abbrev pub table : Table
-table = record { number = 1; db = d; name = t; schema = 0; shape = shape_by def; layout = layout_by t def; steps = record { number = 0; shape = shape_by def } ∷ []; rollups = [] }
+table = record { number = 1; db = d; name = t; schema = 0; shape = shape_of def; layout = layout_of t def; steps = record { number = 0; shape = shape_of def } ∷ []; rollups = [] }
 
 -- a call of the one seat, over a keeper that meets no fault
 abbrev pub plain : Command → Reply → Call
@@ -151,7 +162,7 @@ select = command.Snapshot d t all_of_t
 
 -- a snapshot whose lists fold to these rows
 abbrev pub ShowsRows : List (List Cell) → Reply → Type 0
-ShowsRows shown (reply.Snap s) = fold_of (shape_by def) (joined (map (λ l. rowset_rows l.value) s.lists)) ≡ shown
+ShowsRows shown (reply.Snap s) = fold_of (shape_of def) (joined (map (λ l. rowset_rows l.value) s.lists)) ≡ shown
 ShowsRows shown _ = ⊥
 
 -- a snapshot has these rows, but for want of memory
@@ -159,10 +170,10 @@ abbrev pub Reads : List Entry → List (List Cell) → Type 0
 Reads H shown = (r : Reply) → Answer (happened H) select r → (r ≡ reply.NoMemory) ⊎ ShowsRows shown r
 
 -- the definition with another hash column, and with a column twice
-abbrev pub hashed_by_x : PlainDef
+abbrev pub hashed_by_x : TableDef
 hashed_by_x = record def { hash = (120 ∷ []) ∷ [] }
 
-abbrev pub twice_k : PlainDef
+abbrev pub twice_k : TableDef
 twice_k = record def { columns = int_column k ∷ int_column k ∷ [] }
 
 -- a script that publishes one load and responds with the reply
@@ -172,3 +183,76 @@ publish_one = Asks (command.Publish 0) (λ r. Ends r)
 -- the calls of that script are one call, whose reply is the response
 abbrev pub IsOnePublish : List Call → Reply → Type 0
 IsOnePublish calls response = (c : Call) × (calls ≡ c ∷ []) × (c.command ≡ command.Publish 0) × (response ≡ c.reply)
+
+-- The table is dropped, while its load waits to become visible; the load becomes visible all the same, and the table is made again.
+abbrev pub drop_t : ℕ → Command
+drop_t at = command.DropTable d t false at
+
+abbrev pub gone : List Entry → List Entry
+gone H = call (drop_t 5) reply.Done ∷ H
+
+abbrev pub shown_gone : Built → List Entry
+shown_gone built = call (command.Publish 6) (reply.Published 1 1) ∷ gone (submitted built)
+
+abbrev pub made_again : Built → List Entry
+made_again built = call (command.CreateTable d t def false) reply.Done ∷ shown_gone built
+
+-- the table is made once more
+abbrev pub remade : List Entry → List Entry
+remade H = call (command.CreateTable d t def false) reply.Done ∷ H
+
+-- a two-phase load that is committed
+abbrev pub commit_b : ℕ → Command
+commit_b at = command.Commit d (key.Label b) at
+
+abbrev pub committed : Built → List Entry
+committed built = call (commit_b 10) (reply.Committed 1 1 0) ∷ precommitted built
+
+-- and becomes visible
+abbrev pub committed_shown : Built → List Entry
+committed_shown built = call (command.Publish 20) (reply.Published 1 1) ∷ committed built
+
+-- `PARTITION p VALUES LESS THAN (MAXVALUE)`
+abbrev pub part : Part
+part = record { name = 112 ∷ []; bounds = Less None }
+
+-- `ALTER TABLE t ADD ROLLUP r (k)`, after a load
+abbrev pub r : List ℕ
+r = 114 ∷ []
+
+abbrev pub alter_t : Command
+alter_t = command.AddAlter d t (alter.Rollup r (k ∷ [])) 20
+
+abbrev pub advance : Command
+advance = command.Advance 30
+
+abbrev pub added : Built → List Entry
+added built = call alter_t (reply.Added 1) ∷ loaded built
+
+-- its watershed is the number 2
+abbrev pub waiting : Built → List Entry
+waiting built = call advance (reply.Advanced 1 job_state.WaitingTxn) ∷ added built
+
+abbrev pub running : Built → List Entry
+running built = call advance (reply.Advanced 1 job_state.Running) ∷ waiting built
+
+-- its one task, and what comes of it
+abbrev pub piece_of : PieceResult → Piece
+piece_of result = record { number = 1; born = 0; job = 1; index = 0; part = 0; bucket = 0; result = result }
+
+abbrev pub taken : Task → Built → List Entry
+taken task built = call command.Take (reply.Taken task) ∷ running built
+
+abbrev pub given : PieceResult → Task → Built → List Entry
+given result task built = call (command.Give (piece_of result) 40) (reply.Given 1 (given_state result)) ∷ taken task built
+
+abbrev pub finished : PieceResult → Task → Built → List Entry
+finished result task built = call advance (reply.Advanced 1 job_state.Finished) ∷ given result task built
+
+-- the map of the rollup, and what it makes of rows
+abbrev pub map_of_r : RowMap
+map_of_r = rollup_map (shape_of def) (k ∷ [])
+
+-- what the plan of the next load has
+abbrev pub plan_with_r : ℕ → Plan
+plan_with_r id = record (plan id) { targets = record { index = 1; shape = map_of_r.to; map = map_of_r } ∷ [] }

@@ -1,3 +1,4 @@
 pub mod Tidy
 pub mod Laws
 pub mod Examples
+pub mod Parted

@@ -14,17 +14,51 @@ ghost use Rattle.front_defs.specs.declared.reply.Reply.{Reply};
 ghost use Rattle.front_defs.specs.History.{happened};
 ghost use Rattle.front_defs.specs.Script.{Served};
 ghost use Rattle.front_defs.specs.Ids.{next_of};
+ghost use Rattle.front_defs.specs.Catalogue.{last_table_of};
 ghost use Rattle.front_defs.specs.Legal.{Legal};
 ghost use Rattle.front_defs.specs.May.{IsBuilt};
-ghost use Rattle.front_defs.specs.Stored.{base_of, versions_of};
+ghost use Rattle.front_defs.specs.Stored.{base_of, stored_of, version_of};
+ghost use Rattle.table_defs.specs.Columns.{shape_of};
+ghost use Rattle.table_defs.specs.Defined.{layout_of};
+ghost use Rattle.schema_models.specs.Folds.{fold_of};
+ghost use Rattle.partitions.specs.Places.{rows_at};
+ghost use Rattle.row_map.specs.Maps.{conv};
+ghost use Rattle.rowsets.specs.declared.rowset.Rowset.{Rowset};
+ghost use Rattle.std.specs.declared.sync.Arc.{Arc};
+ghost use Rattle.std.specs.declared.alloc.Global.{Global};
+ghost use Rattle.alter_core.specs.declared.job.JobKind.TheVariants as job_kind;
+ghost use Rattle.alter_core.specs.declared.job.JobState.TheVariants as job_state;
+ghost use Rattle.history_convert.specs.declared.task.PieceResult.{PieceResult};
+ghost use Rattle.history_convert.specs.declared.task.PieceResult.TheVariants.{Rows, Back};
+ghost use Rattle.history_convert.specs.declared.task.Task.{Task};
 ghost use Rattle.front_defs.specs.Transactions.{txns_of};
 ghost use Rattle.front_laws.specs.Examples.{
+  added,
+  advance,
+  alter_t,
+  finished,
+  given,
+  map_of_r,
+  piece_of,
+  plan_with_r,
+  running,
+  taken,
+  waiting,
   IsOnePublish,
   OneAnswer,
   OneAnswerReopened,
   Reads,
   a1,
   abort_b,
+  commit_b,
+  committed,
+  committed_shown,
+  drop_t,
+  gone,
+  made_again,
+  remade,
+  part,
+  shown_gone,
   aborted,
   all_of_t,
   b,
@@ -69,8 +103,8 @@ pub fn a_table_is_made_once()
 pub fn a_first_load()
     ensures legal { (built : Built) → IsBuilt (plan 1) built → Legal (loaded built) }
     ensures rows { (built : Built) → built.rows ≡ rows → base_of (happened (loaded built)) 1 ≡ row 1 5 ∷ row 1 6 ∷ row 2 7 ∷ [] }
-    ensures version { (built : Built) → built.rows ≡ rows → versions_of (happened (loaded built)) 1 ≡ 2 ∷ [] }
-    ensures no_rows { (built : Built) → built.rows ≡ [] → versions_of (happened (loaded built)) 1 ≡ 1 ∷ [] }
+    ensures version { (built : Built) → built.rows ≡ rows → version_of (happened (loaded built)) 1 0 ≡ 2 }
+    ensures no_rows { (built : Built) → built.rows ≡ [] → version_of (happened (loaded built)) 1 0 ≡ 1 }
 {}
 
 /// The same load again is answered by its recorded state.
@@ -146,4 +180,63 @@ pub fn a_fault_of_the_keeper()
 pub fn a_script_asks_one_command()
     ensures served { Served publish_one (plain (command.Publish 0) reply.NothingToPublish ∷ []) reply.NothingToPublish }
     ensures only { (calls : List Call) (response : Reply) → Served publish_one calls response → IsOnePublish calls response }
+{}
+
+/// A two-phase load holds its label, is committed until it expires, and then becomes visible, once and for all.
+pub fn a_two_phase_load_is_committed()
+    ensures well { (built : Built) → OneAnswer (precommitted built) (commit_b 3599) (reply.Committed 1 1 0) }
+    ensures expired { (built : Built) → OneAnswer (precommitted built) (commit_b 3600) (reply.Expired 0) }
+    ensures open { OneAnswer two_phase_begun (commit_b 10) (reply.WrongState state.Prepare) }
+    ensures twice { (built : Built) → OneAnswer (committed built) (commit_b 10) (reply.WrongState state.Committed) }
+    ensures next { (built : Built) → OneAnswer (committed built) (command.Publish 20) (reply.Published 1 1) }
+    ensures again { (built : Built) → OneAnswer (precommitted built) (begin b) (reply.Used 1 state.Precommitted) }
+    ensures late { (built : Built) → OneAnswer (committed_shown built) (commit_b 30) (reply.WrongState state.Visible) }
+    ensures too_late { (built : Built) → OneAnswer (committed_shown built) (command.Abort d (key.Id 1) 30) (reply.WrongState state.Visible) }
+{}
+
+/// A table that is dropped takes its rows along: a load that waits becomes visible and changes nothing, an open one is
+/// aborted, one that ended stays as it was, and the number of the table is not used again.
+pub fn a_table_is_dropped()
+    ensures once { OneAnswer (gone made) (drop_t 5) reply.UnknownTable }
+    ensures quietly { OneAnswer (gone made) (command.DropTable d t true 5) reply.Done }
+    ensures open { (built : Built) → OneAnswer (gone begun) (command.Submit 1 built 5) (reply.WrongState state.Aborted) }
+    ensures precommitted { (built : Built) → OneAnswer (gone (precommitted built)) (commit_b 6) (reply.WrongState state.Aborted) }
+    ensures waits { (built : Built) → OneAnswer (gone (submitted built)) (command.Publish 6) (reply.Published 1 1) }
+    ensures rows { (built : Built) → base_of (happened (shown_gone built)) 1 ≡ [] }
+    ensures version { (built : Built) → version_of (happened (shown_gone built)) 1 0 ≡ 1 }
+    ensures label { (built : Built) → OneAnswer (made_again built) (begin a1) (reply.Used 1 state.Visible) }
+    ensures number { (built : Built) → last_table_of (happened (made_again built)) ≡ 2 }
+    ensures whole { OneAnswer made (command.AddPartition d t part) (reply.BadPartition layout_error.NotPartitioned) }
+    ensures shown { (built : Built) → base_of (happened (gone (loaded built))) 1 ≡ [] }
+    ensures shown_label { (built : Built) → OneAnswer (remade (gone (loaded built))) (begin a1) (reply.Used 1 state.Visible) }
+    ensures ended { (built : Built) → OneAnswer (remade (gone (aborted built))) (begin b) (reply.Begun 2 (plan 2)) }
+{}
+
+/// What ended is cleaned after 259,200 seconds, and what expired is aborted.
+pub fn a_sweep_cleans_what_ended()
+    ensures early { (built : Built) → OneAnswer (loaded built) (command.Sweep 259199) reply.NothingToSweep }
+    ensures late { (built : Built) → OneAnswer (loaded built) (command.Sweep 259200) (reply.Swept 0 1) }
+    ensures taken { OneAnswer begun (command.Sweep 599) reply.NothingToSweep }
+    ensures expired { OneAnswer begun (command.Sweep 600) (reply.Swept 1 0) }
+    ensures submitted { (built : Built) → OneAnswer (precommitted built) (command.Sweep 3599) reply.NothingToSweep }
+    ensures aborted { (built : Built) → OneAnswer (precommitted built) (command.Sweep 3600) (reply.Swept 1 0) }
+{}
+
+/// A rollup is added after a load. A second one is refused while the first one's job lives, and so is a partition. The job
+/// waits, with a target in each plan from then on, and runs; its one task is taken and given its rows, and it ends.
+pub fn a_rollup()
+    ensures added { (built : Built) → OneAnswer (loaded built) alter_t (reply.Added 1) }
+    ensures busy { (built : Built) → OneAnswer (added built) alter_t (reply.Busy 1) }
+    ensures no_part { (built : Built) → OneAnswer (added built) (command.AddPartition d t part) (reply.Busy 1) }
+    ensures waits { (built : Built) → OneAnswer (added built) advance (reply.Advanced 1 job_state.WaitingTxn) }
+    ensures planned { (built : Built) → OneAnswer (waiting built) (begin b) (reply.Begun 3 (plan_with_r 3)) }
+    ensures runs { (built : Built) → OneAnswer (waiting built) advance (reply.Advanced 1 job_state.Running) }
+    ensures open_task { (built : Built) → OneAnswer (running built) advance reply.NothingToAdvance }
+    ensures stale { (built : Built) (task : Task) (result : PieceResult) → OneAnswerReopened (taken task built) (command.Give (piece_of result) 40) (reply.Stale 1) }
+    ensures gives { (built : Built) (task : Task) (rows : Arc Rowset Global) → OneAnswer (taken task built) (command.Give (piece_of (Rows rows)) 40) (reply.Given 1 job_state.Running) }
+    ensures again { (built : Built) (task : Task) (rows : Arc Rowset Global) → OneAnswer (given (Rows rows) task built) (command.Give (piece_of (Rows rows)) 40) (reply.TaskOver job_state.Running) }
+    ensures open_again { (built : Built) (task : Task) → OneAnswer (given Back task built) advance reply.NothingToAdvance }
+    ensures ends { (built : Built) (task : Task) (rows : Arc Rowset Global) → OneAnswer (given (Rows rows) task built) advance (reply.Advanced 1 job_state.Finished) }
+    ensures none { (built : Built) (task : Task) (rows : Arc Rowset Global) → OneAnswer (finished (Rows rows) task built) (command.CancelAlter d t job_kind.Rollup 50) reply.NoJob }
+    ensures lists { (built : Built) (task : Task) (rows : Arc Rowset Global) → stored_of (happened (finished (Rows rows) task built)) 1 1 ≡ fold_of map_of_r.to (conv map_of_r (rows_at (layout_of t def) (record { part = 0; bucket = 0 }) (base_of (happened (loaded built)) 1))) ∷ [] }
 {}

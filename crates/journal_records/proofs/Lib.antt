@@ -1,5 +1,7 @@
 pub mod Appends
+pub mod Cells
 pub mod Fields
 pub mod Loops
 pub mod Records
 pub mod Strings
+pub mod Tables

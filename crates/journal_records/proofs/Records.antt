@@ -3,44 +3,16 @@ use Rattle.std.proofs.Common.{◌≡◌, ℕ, List, [], ◌∷◌, ◌++◌, len
 use Rattle.std.specs.Prelude.{IfOk}
 use Rattle.std.proofs.lemmas.List.{append-nil}
 use Rattle.journal_records.specs.declared.errors.DecodeError.{DecodeError}
-use Rattle.dl_values.specs.declared.cell.Cell.{Cell}
-use Rattle.dl_values.specs.declared.cell.Cell.TheVariants as cells
 use Rattle.journal_records.specs.declared.record.Record.{Record}
 use Rattle.journal_records.specs.declared.record.Record.TheVariants as kind
-use Rattle.journal_records.specs.Spelling.{number64, optional, pair, cell, row, rows, load, bound, new_part, data_cause, cause, fields, spelling}
-use Rattle.journal_records.specs.Fitting.{FitsList, FitsPair, FitsCell, FitsRow, FitsLoad, FitsPart, FitsData, FitsCause, Fits, FitsOption}
+use Rattle.journal_records.specs.Spelling.{number64, optional, pair, load, new_part, data_cause, cause, fields, spelling}
+use Rattle.journal_records.specs.Fitting.{FitsPair, FitsLoad, FitsPart, FitsData, FitsCause, Fits}
 use Rattle.journal_records.specs.declared.cause.Cause.{Cause}
 use Rattle.journal_records.specs.declared.cause.Cause.TheVariants as causes
-use Rattle.journal_records.specs.Reading.{bind, is, ◌>>=◌, number64_at, cell_at, row_at, rows_at, load_at, pair_at, job_at, commit_at, job_waiting_at, bound_at, new_part_at, data_cause_at, cause_at, job_cancelled_at, later_at, fields_at, record_at, record_of, to_end, Decodes}
-use Rattle.journal_records.proofs.Fields.{IsBytes, Takes, Reads, Sound, Behind, bind_ok, ok_is, done, field, last, whole, none_sound, tag_sound, behind, alone, made_again, number64_reads, integer_reads, text_reads, day_reads, flag_reads, job_reads, option_reads, pair_reads, list_reads}
-
--- ---- cells and rows
-
-cell_sound : Sound cell FitsCell cell_at
-unfolding cell_at
-cell_sound =
-    tag_sound 0 cell FitsCell _ _ (alone 0 cell FitsCell cells.Null refl tt)
-    (tag_sound 1 cell FitsCell _ _ (behind 1 cell FitsCell cells.Int integer_reads (λ z. refl) (λ z h. h))
-    (tag_sound 2 cell FitsCell _ _ (behind 2 cell FitsCell cells.Day day_reads (λ d. refl) (λ d h. h))
-    (tag_sound 3 cell FitsCell _ _ (behind 3 cell FitsCell cells.Text text_reads (λ t. refl) (λ t h. h)) (none_sound cell FitsCell))))
-
-cell_again : (c : Cell) (rest : List ℕ) → FitsCell c → cell_at (cell c ++ rest) ≡ Ok (c, rest)
-unfolding cell_at
-cell_again cells.Null rest fits = refl
-cell_again (cells.Int z) rest fits = made_again cells.Int integer_reads z rest fits
-cell_again (cells.Day d) rest fits = made_again cells.Day day_reads d rest fits
-cell_again (cells.Text t) rest fits = made_again cells.Text text_reads t rest fits
-
-cell_reads : Reads cell FitsCell cell_at
-cell_reads = record { takes = cell_sound; again = cell_again }
-
-row_reads : Reads row FitsRow row_at
-unfolding row_at
-row_reads = list_reads cell_reads
-
-rows_read : Reads rows (FitsList FitsRow) rows_at
-unfolding rows_at rows
-rows_read = list_reads row_reads
+use Rattle.journal_records.specs.Reading.{bind, is, ◌>>=◌, number64_at, load_at, pair_at, job_at, commit_at, job_waiting_at, new_part_at, data_cause_at, cause_at, job_cancelled_at, later_at, fields_at, record_at, record_of, to_end, Decodes}
+use Rattle.journal_records.proofs.Fields.{IsBytes, Takes, Reads, Sound, Behind, bind_ok, ok_is, done, field, last, whole, none_sound, tag_sound, behind, alone, made_again, number64_reads, text_reads, flag_reads, job_reads, pair_reads}
+use Rattle.journal_records.proofs.Cells.{row_reads, rows_read, bound_reads}
+use Rattle.journal_records.proofs.Tables.{new_table_reads, new_job_reads}
 
 -- ---- loads
 
@@ -59,10 +31,6 @@ load_reads =
     (λ l k. rw (← k.1, ← k.0.1, ← k.0.0.1, ← k.0.0.0.1, ← k.0.0.0.0.1, ← k.0.0.0.0.0.1, ← k.0.0.0.0.0.0.1) refl)))))))))
 
 -- ---- partitions and causes
-
-bound_reads : Reads bound (FitsOption FitsCell) bound_at
-unfolding bound_at bound
-bound_reads = option_reads cell_reads
 
 new_part_reads : Reads new_part FitsPart new_part_at
 unfolding new_part_at new_part
@@ -115,10 +83,11 @@ unfolding later_at commit_at job_waiting_at
 later_sound =
     tag_sound 8 fields Fits _ _ (behind 8 fields Fits (λ p. kind.Abort p.0 p.1) pair_reads (λ p. refl) (λ p h. h))
     (tag_sound 9 fields Fits _ _ (behind 9 fields Fits (λ p. kind.Publish p.0 p.1) pair_reads (λ p. refl) (λ p h. h))
+    (tag_sound 10 fields Fits _ _ (behind 10 fields Fits kind.AddJob new_job_reads (λ j. refl) (λ j h. h))
     (tag_sound 11 fields Fits _ _ job_waiting_sound
     (tag_sound 12 fields Fits _ _ (behind 12 fields Fits (λ p. kind.JobFinished p.0 p.1) pair_reads (λ p. refl) (λ p h. h))
     (tag_sound 13 fields Fits _ _ job_cancelled_sound
-    (tag_sound 14 fields Fits _ _ (behind 14 fields Fits kind.Sweep number64_reads (λ at. refl) (λ at h. h)) (none_sound fields Fits))))))
+    (tag_sound 14 fields Fits _ _ (behind 14 fields Fits kind.Sweep number64_reads (λ at. refl) (λ at h. h)) (none_sound fields Fits)))))))
   where
     job_waiting_sound : Behind 11 fields Fits job_waiting_at
     job_waiting_sound bytes s rest fits e =
@@ -143,15 +112,17 @@ fields_sound : Sound fields Fits fields_at
 unfolding fields_at
 fields_sound =
     tag_sound 1 fields Fits _ _ (behind 1 fields Fits kind.CreateDb text_reads (λ t. refl) (λ t h. h))
+    (tag_sound 2 fields Fits _ _ (behind 2 fields Fits kind.CreateTable new_table_reads (λ t. refl) (λ t h. h))
     (tag_sound 3 fields Fits _ _ (behind 3 fields Fits (λ p. kind.DropTable p.0 p.1) pair_reads (λ p. refl) (λ p h. h))
     (tag_sound 4 fields Fits _ _ (behind 4 fields Fits kind.AddPartition new_part_reads (λ p. refl) (λ p h. h))
     (tag_sound 5 fields Fits _ _ (behind 5 fields Fits kind.IdRange number64_reads (λ n. refl) (λ n h. h))
     (tag_sound 6 fields Fits _ _ (behind 6 fields Fits kind.Submit load_reads (λ l. refl) (λ l h. h))
-    (tag_sound 7 fields Fits _ _ commit_sound later_sound)))))
+    (tag_sound 7 fields Fits _ _ commit_sound later_sound))))))
 
 fields_again : (r : Record) (rest : List ℕ) → Fits r → fields_at (fields r ++ rest) ≡ Ok (r, rest)
 unfolding fields_at later_at commit_at job_waiting_at job_cancelled_at
 fields_again (kind.CreateDb name) rest fits = made_again kind.CreateDb text_reads name rest fits
+fields_again (kind.CreateTable t) rest fits = made_again kind.CreateTable new_table_reads t rest fits
 fields_again (kind.DropTable table at) rest fits = made_again (λ p. kind.DropTable p.0 p.1) pair_reads (table, at) rest fits
 fields_again (kind.AddPartition p) rest fits = made_again kind.AddPartition new_part_reads p rest fits
 fields_again (kind.IdRange upto) rest fits = made_again kind.IdRange number64_reads upto rest fits
@@ -162,6 +133,7 @@ fields_again (kind.Commit txn at cancelled) rest fits =
     ∙ made_again (kind.Commit txn at) job_reads cancelled rest fits.1
 fields_again (kind.Abort txn at) rest fits = made_again (λ p. kind.Abort p.0 p.1) pair_reads (txn, at) rest fits
 fields_again (kind.Publish txn at) rest fits = made_again (λ p. kind.Publish p.0 p.1) pair_reads (txn, at) rest fits
+fields_again (kind.AddJob j) rest fits = made_again kind.AddJob new_job_reads j rest fits
 fields_again (kind.JobWaiting job watershed upto) rest fits =
     ap job_waiting_at (append_assoc (pair (job, watershed)) (number64 upto) rest)
     ∙ ap (λ r. bind r (λ p. number64_at >>= λ n. is (kind.JobWaiting p.0 p.1 n))) (pair_reads.again (job, watershed) (number64 upto ++ rest) fits.0)

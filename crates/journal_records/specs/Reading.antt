@@ -9,6 +9,25 @@ use Rattle.journal_records.specs.declared.stop.Stop.{Stop}
 use Rattle.journal_records.specs.declared.stop.Stop.TheVariants as stop
 use Rattle.journal_records.specs.declared.errors.DecodeError.{DecodeError}
 use Rattle.journal_records.specs.declared.errors.DecodeError.TheVariants as wrong
+use Rattle.dl_values.specs.declared.agg_kind.AggKind.TheVariants as merging
+use Rattle.dl_values.specs.declared.col_type.ColType.{ColType}
+use Rattle.dl_values.specs.declared.col_type.ColType.TheVariants as types
+use Rattle.schema_models.specs.declared.column_def.ColumnDef.{ColumnDef}
+use Rattle.schema_models.specs.declared.model.Model.{Model}
+use Rattle.schema_models.specs.declared.model.Model.TheVariants as models
+use Rattle.schema_models.specs.declared.role.Role.{Role}
+use Rattle.schema_models.specs.declared.role.Role.TheVariants as roles
+use Rattle.journal_records.specs.declared.change.Change.{Change}
+use Rattle.journal_records.specs.declared.change.Change.TheVariants as changes
+use Rattle.journal_records.specs.declared.layout_def.LayoutDef.{LayoutDef}
+use Rattle.journal_records.specs.declared.new_job.NewJob.{NewJob}
+use Rattle.journal_records.specs.declared.new_table.NewTable.{NewTable}
+use Rattle.journal_records.specs.declared.origin.Origin.{Origin}
+use Rattle.journal_records.specs.declared.origin.Origin.TheVariants as origins
+use Rattle.journal_records.specs.declared.part.Part.{Part}
+use Rattle.journal_records.specs.declared.rollup_def.RollupDef.{RollupDef}
+use Rattle.journal_records.specs.declared.schema_def.SchemaDef.{SchemaDef}
+use Rattle.journal_records.specs.declared.shape_def.ShapeDef.{ShapeDef}
 use Rattle.journal_records.specs.declared.cause.Cause.{Cause}
 use Rattle.journal_records.specs.declared.cause.Cause.TheVariants as causes
 use Rattle.journal_records.specs.declared.load.Load.{Load}
@@ -126,6 +145,94 @@ new_part_at = do
   high ← bound_at
   is (record { table = table; name = name; low = low; high = high })
 
+unfoldable pub model_at : Reader Model
+model_at = tagged 0 (is models.Duplicate) (tagged 1 (is models.Unique) (tagged 2 (is models.Aggregate) no_tag))
+
+-- the role of a value that merges
+unfoldable pub merging_at : Reader Role
+merging_at =
+    tagged 2 (is (roles.Agg merging.Sum))
+    (tagged 3 (is (roles.Agg merging.Min))
+    (tagged 4 (is (roles.Agg merging.Max))
+    (tagged 5 (is (roles.Agg merging.Replace))
+    (tagged 6 (is (roles.Agg merging.ReplaceIfNotNull)) no_tag))))
+
+unfoldable pub role_at : Reader Role
+role_at = tagged 0 (is roles.Key) (tagged 1 (is roles.Plain) merging_at)
+
+unfoldable pub type_at : Reader ColType
+type_at =
+    tagged 0 (is types.TinyInt)
+    (tagged 1 (is types.SmallInt)
+    (tagged 2 (is types.Int)
+    (tagged 3 (is types.BigInt)
+    (tagged 4 (is types.Date)
+    (tagged 5 (number_at w32 >>= λ len. is (types.Varchar len)) no_tag)))))
+
+unfoldable pub column_at : Reader ColumnDef
+column_at = do
+  name ← text_at
+  ty ← type_at
+  nullable ← flag_at
+  role ← role_at
+  default ← bound_at
+  is (record { name = name; kind = ty; nullable = nullable; role = role; default = default })
+
+unfoldable pub shape_at : Reader ShapeDef
+shape_at = do
+  model ← model_at
+  columns ← listed_at column_at
+  is (record { model = model; columns = columns })
+
+unfoldable pub part_at : Reader Part
+part_at = do
+  name ← text_at
+  low ← bound_at
+  high ← bound_at
+  is (record { name = name; low = low; high = high })
+
+unfoldable pub layout_at : Reader LayoutDef
+layout_at = do
+  column ← optional_at text_at
+  parts ← listed_at part_at
+  hash ← listed_at text_at
+  buckets ← number_at w32
+  is (record { column = column; parts = parts; hash = hash; buckets = buckets })
+
+unfoldable pub new_table_at : Reader NewTable
+new_table_at = do
+  db ← text_at
+  name ← text_at
+  shape ← shape_at
+  layout ← layout_at
+  is (record { db = db; name = name; shape = shape; layout = layout })
+
+unfoldable pub origin_at : Reader Origin
+origin_at = tagged 0 (text_at >>= λ name. is (origins.From name)) (tagged 1 (cell_at >>= λ c. is (origins.Constant c)) no_tag)
+
+unfoldable pub rollup_at : Reader RollupDef
+rollup_at = do
+  name ← text_at
+  columns ← listed_at text_at
+  is (record { name = name; columns = columns })
+
+unfoldable pub schema_at : Reader SchemaDef
+schema_at = do
+  shape ← shape_at
+  sources ← listed_at origin_at
+  is (record { shape = shape; origins = sources })
+
+unfoldable pub change_at : Reader Change
+change_at = tagged 0 (rollup_at >>= λ r. is (changes.Rollup r)) (tagged 1 (schema_at >>= λ s. is (changes.Schema s)) no_tag)
+
+unfoldable pub new_job_at : Reader NewJob
+new_job_at = do
+  job ← number64_at
+  table ← number64_at
+  at ← number64_at
+  change ← change_at
+  is (record { job = job; table = table; at = at; change = change })
+
 unfoldable pub data_cause_at : Reader (List ℕ × List Cell)
 data_cause_at = do
   column ← text_at
@@ -169,20 +276,22 @@ unfoldable pub later_at : Reader Record
 later_at =
     tagged 8 (pair_at >>= λ p. is (kind.Abort p.0 p.1))
     (tagged 9 (pair_at >>= λ p. is (kind.Publish p.0 p.1))
+    (tagged 10 (new_job_at >>= λ j. is (kind.AddJob j))
     (tagged 11 job_waiting_at
     (tagged 12 (pair_at >>= λ p. is (kind.JobFinished p.0 p.1))
     (tagged 13 job_cancelled_at
-    (tagged 14 (number64_at >>= λ at. is (kind.Sweep at)) no_tag)))))
+    (tagged 14 (number64_at >>= λ at. is (kind.Sweep at)) no_tag))))))
 
 -- the byte of the kind, and the fields
 unfoldable pub fields_at : Reader Record
 fields_at =
     tagged 1 (text_at >>= λ name. is (kind.CreateDb name))
+    (tagged 2 (new_table_at >>= λ t. is (kind.CreateTable t))
     (tagged 3 (pair_at >>= λ p. is (kind.DropTable p.0 p.1))
     (tagged 4 (new_part_at >>= λ p. is (kind.AddPartition p))
     (tagged 5 (number64_at >>= λ upto. is (kind.IdRange upto))
     (tagged 6 (load_at >>= λ l. is (kind.Submit l))
-    (tagged 7 commit_at later_at)))))
+    (tagged 7 commit_at later_at))))))
 
 -- the byte of the format, and these
 unfoldable pub record_at : Reader Record

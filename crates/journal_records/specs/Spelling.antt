@@ -4,6 +4,25 @@ use Rattle.std.specs.List.{flat_map}
 use Rattle.std.specs.Int.{w32, w64, to_be_bytes, cast_unsigned}
 use Rattle.dl_values.specs.declared.cell.Cell.{Cell}
 use Rattle.dl_values.specs.declared.cell.Cell.TheVariants as cells
+use Rattle.dl_values.specs.declared.agg_kind.AggKind.TheVariants as merging
+use Rattle.dl_values.specs.declared.col_type.ColType.{ColType}
+use Rattle.dl_values.specs.declared.col_type.ColType.TheVariants as types
+use Rattle.schema_models.specs.declared.column_def.ColumnDef.{ColumnDef}
+use Rattle.schema_models.specs.declared.model.Model.{Model}
+use Rattle.schema_models.specs.declared.model.Model.TheVariants as models
+use Rattle.schema_models.specs.declared.role.Role.{Role}
+use Rattle.schema_models.specs.declared.role.Role.TheVariants as roles
+use Rattle.journal_records.specs.declared.change.Change.{Change}
+use Rattle.journal_records.specs.declared.change.Change.TheVariants as changes
+use Rattle.journal_records.specs.declared.layout_def.LayoutDef.{LayoutDef}
+use Rattle.journal_records.specs.declared.new_job.NewJob.{NewJob}
+use Rattle.journal_records.specs.declared.new_table.NewTable.{NewTable}
+use Rattle.journal_records.specs.declared.origin.Origin.{Origin}
+use Rattle.journal_records.specs.declared.origin.Origin.TheVariants as origins
+use Rattle.journal_records.specs.declared.part.Part.{Part}
+use Rattle.journal_records.specs.declared.rollup_def.RollupDef.{RollupDef}
+use Rattle.journal_records.specs.declared.schema_def.SchemaDef.{SchemaDef}
+use Rattle.journal_records.specs.declared.shape_def.ShapeDef.{ShapeDef}
 use Rattle.journal_records.specs.declared.cause.Cause.{Cause}
 use Rattle.journal_records.specs.declared.cause.Cause.TheVariants as causes
 use Rattle.journal_records.specs.declared.load.Load.{Load}
@@ -64,6 +83,64 @@ bound end = optional cell end
 unfoldable pub new_part : NewPart → List ℕ
 new_part p = number64 p.table ++ (text p.name ++ (bound p.low ++ bound p.high))
 
+-- ---- tables and jobs
+
+abbrev pub column_type : ColType → List ℕ
+column_type types.TinyInt = 0 ∷ []
+column_type types.SmallInt = 1 ∷ []
+column_type types.Int = 2 ∷ []
+column_type types.BigInt = 3 ∷ []
+column_type types.Date = 4 ∷ []
+column_type (types.Varchar len) = 5 ∷ number32 len
+
+abbrev pub role : Role → List ℕ
+role roles.Key = 0 ∷ []
+role roles.Plain = 1 ∷ []
+role (roles.Agg merging.Sum) = 2 ∷ []
+role (roles.Agg merging.Min) = 3 ∷ []
+role (roles.Agg merging.Max) = 4 ∷ []
+role (roles.Agg merging.Replace) = 5 ∷ []
+role (roles.Agg merging.ReplaceIfNotNull) = 6 ∷ []
+
+abbrev pub model : Model → List ℕ
+model models.Duplicate = 0 ∷ []
+model models.Unique = 1 ∷ []
+model models.Aggregate = 2 ∷ []
+
+unfoldable pub column : ColumnDef → List ℕ
+column c = text c.name ++ (column_type c.kind ++ (flag c.nullable ++ (role c.role ++ bound c.default)))
+
+unfoldable pub shape : ShapeDef → List ℕ
+shape s = model s.model ++ listed column s.columns
+
+unfoldable pub part : Part → List ℕ
+part p = text p.name ++ (bound p.low ++ bound p.high)
+
+unfoldable pub layout : LayoutDef → List ℕ
+layout l = optional text l.column ++ (listed part l.parts ++ (listed text l.hash ++ number32 l.buckets))
+
+unfoldable pub new_table : NewTable → List ℕ
+new_table t = text t.db ++ (text t.name ++ (shape t.shape ++ layout t.layout))
+
+abbrev pub origin : Origin → List ℕ
+origin (origins.From name) = 0 ∷ text name
+origin (origins.Constant c) = 1 ∷ cell c
+
+unfoldable pub rollup : RollupDef → List ℕ
+rollup r = text r.name ++ listed text r.columns
+
+unfoldable pub schema : SchemaDef → List ℕ
+schema s = shape s.shape ++ listed origin s.origins
+
+abbrev pub change : Change → List ℕ
+change (changes.Rollup r) = 0 ∷ rollup r
+change (changes.Schema s) = 1 ∷ schema s
+
+unfoldable pub new_job : NewJob → List ℕ
+new_job j = number64 j.job ++ (number64 j.table ++ (number64 j.at ++ change j.change))
+
+-- ---- causes
+
 -- a column, and the row that cannot be converted
 unfoldable pub data_cause : List ℕ × List Cell → List ℕ
 data_cause x = text x.0 ++ row x.1
@@ -82,6 +159,7 @@ pair p = number64 p.0 ++ number64 p.1
 -- the byte of the kind, and the fields
 abbrev pub fields : Record → List ℕ
 fields (kind.CreateDb name) = 1 ∷ text name
+fields (kind.CreateTable t) = 2 ∷ new_table t
 fields (kind.DropTable table at) = 3 ∷ pair (table, at)
 fields (kind.AddPartition p) = 4 ∷ new_part p
 fields (kind.IdRange upto) = 5 ∷ number64 upto
@@ -89,6 +167,7 @@ fields (kind.Submit l) = 6 ∷ load l
 fields (kind.Commit txn at cancelled) = 7 ∷ (pair (txn, at) ++ optional number64 cancelled)
 fields (kind.Abort txn at) = 8 ∷ pair (txn, at)
 fields (kind.Publish txn at) = 9 ∷ pair (txn, at)
+fields (kind.AddJob j) = 10 ∷ new_job j
 fields (kind.JobWaiting job watershed upto) = 11 ∷ (pair (job, watershed) ++ number64 upto)
 fields (kind.JobFinished job at) = 12 ∷ pair (job, at)
 fields (kind.JobCancelled job at c) = 13 ∷ (pair (job, at) ++ cause c)

@@ -5,7 +5,10 @@ ghost use Rattle.journal_records.specs.Reading.{Gives, load_at, new_part_at, dat
 use crate::cause::Cause;
 use crate::choices::{after_tag, flag};
 use crate::load::Load;
+use crate::new_job::NewJob;
 use crate::new_part::NewPart;
+use crate::new_table::NewTable;
+use crate::piece::Piece;
 use crate::read_fields::{bound, job, name, number64, pair};
 use crate::read_rows::{row, rows};
 use crate::record::Record;
@@ -129,6 +132,10 @@ fn later(alloc: Global, bytes: &[u8]) -> Result<(Record, &[u8]), Stop>
         let (txn, at, rest) = pair(rest)?;
         return Ok((Record::Publish { txn, at }, rest));
     }
+    if let Some(rest) = after_tag(bytes, 10) {
+        let (job, rest) = NewJob::read(alloc, rest)?;
+        return Ok((Record::AddJob(job), rest));
+    }
     if let Some(rest) = after_tag(bytes, 11) {
         return job_waiting(rest);
     }
@@ -154,6 +161,10 @@ fn fields(alloc: Global, bytes: &[u8]) -> Result<(Record, &[u8]), Stop>
     if let Some(rest) = after_tag(bytes, 1) {
         let (name, rest) = name(alloc, rest)?;
         return Ok((Record::CreateDb(name), rest));
+    }
+    if let Some(rest) = after_tag(bytes, 2) {
+        let (table, rest) = NewTable::read(alloc, rest)?;
+        return Ok((Record::CreateTable(table), rest));
     }
     if let Some(rest) = after_tag(bytes, 3) {
         let (table, at, rest) = pair(rest)?;

@@ -1,13 +1,16 @@
 // One record of a journal.
 use crate::cause::Cause;
 use crate::load::Load;
+use crate::new_job::NewJob;
 use crate::new_part::NewPart;
+use crate::new_table::NewTable;
 use dl_values::Name;
 
 /// Something that a journal tells. Tables, transactions and jobs are named by their numbers.
 #[derive(Debug, Drop)]
 pub enum Record {
     CreateDb(Name),
+    CreateTable(NewTable),
     DropTable {
         table: u64,
         at: u64,
@@ -32,6 +35,7 @@ pub enum Record {
         txn: u64,
         at: u64,
     },
+    AddJob(NewJob),
     JobWaiting {
         job: u64,
         watershed: u64,

@@ -5,18 +5,19 @@ ghost use Rattle.journal_records.specs.Fitting as fitting;
 
 use crate::cause::Cause;
 use crate::new_part::NewPart;
+use crate::piece::Piece;
 use crate::record::Record;
 use dl_values::{Cell, Rows};
 
-const LIMIT: usize = 4_294_967_296;
+pub const LIMIT: usize = 4_294_967_296;
 
-fn is_short_text(text: &[u8]) -> bool
+pub fn is_short_text(text: &[u8]) -> bool
     ensures { result ≡ fitting.short_text text.now }
 {
     text.len() < LIMIT
 }
 
-fn is_short_cell(cell: &Cell) -> bool
+pub fn is_short_cell(cell: &Cell) -> bool
     ensures { result ≡ fitting.short_cell cell.now }
 {
     match cell {
@@ -54,7 +55,7 @@ fn are_short_rows(rows: &Rows) -> bool
     rows.len() < LIMIT && all_short_rows(rows)
 }
 
-fn is_short_bound(end: &Option<Cell>) -> bool
+pub fn is_short_bound(end: &Option<Cell>) -> bool
     ensures { result ≡ fitting.short_bound end.now }
 {
     match end {
@@ -83,8 +84,10 @@ pub fn is_short(told: &Record) -> bool
 {
     match told {
         Record::CreateDb(name) => is_short_text(name.bytes()),
+        Record::CreateTable(table) => table.is_short(),
         Record::Submit(load) => is_short_text(load.label.bytes()) && are_short_rows(&load.rows),
         Record::AddPartition(part) => is_short_part(part),
+        Record::AddJob(job) => job.is_short(),
         Record::JobCancelled { cause, .. } => is_short_cause(cause),
         _ => true,
     }

@@ -21,8 +21,14 @@ pub fn put_pair(out: &mut Vec<u8>, first: u64, second: u64) -> Result<(), NoMemo
     Ok(())
 }
 
+pub fn put_number32(out: &mut Vec<u8>, number: u32) -> Result<(), NoMemory>
+    ensures { OnOk result (out.new.items ≡ out.old.items ++ bytes_of.number32 number) }
+{
+    put_length(out, number as usize)
+}
+
 // The four low bytes of a length. Nothing that is written is longer than they say.
-fn put_length(out: &mut Vec<u8>, len: usize) -> Result<(), NoMemory>
+pub fn put_length(out: &mut Vec<u8>, len: usize) -> Result<(), NoMemory>
     ensures { OnOk result (out.new.items ≡ out.old.items ++ bytes_of.number32 len) }
 {
     let bytes = (len as u64).to_be_bytes();
@@ -64,7 +70,7 @@ pub fn put_job(out: &mut Vec<u8>, job: Option<u64>) -> Result<(), NoMemory>
 }
 
 #[tactic(auto, unfolding(crate::specs::Spelling::number64))]
-fn put_cell(out: &mut Vec<u8>, cell: &Cell) -> Result<(), NoMemory>
+pub fn put_cell(out: &mut Vec<u8>, cell: &Cell) -> Result<(), NoMemory>
     ensures { OnOk result (out.new.items ≡ out.old.items ++ bytes_of.cell cell.now) }
 {
     match cell {

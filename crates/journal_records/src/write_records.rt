@@ -5,6 +5,7 @@ ghost use Rattle.journal_records.specs.Spelling as bytes_of;
 use crate::cause::Cause;
 use crate::load::Load;
 use crate::new_part::NewPart;
+use crate::piece::Piece;
 use crate::record::Record;
 use crate::write_fields::{
     put_bound, put_flag, put_job, put_number64, put_pair, put_row, put_rows, put_text,
@@ -81,6 +82,10 @@ fn put_fields(out: &mut Vec<u8>, told: &Record) -> Result<(), NoMemory>
             out.push(1)?;
             put_text(out, name.bytes())?;
         }
+        Record::CreateTable(table) => {
+            out.push(2)?;
+            table.put(out)?;
+        }
         Record::DropTable { table, at } => put_tag(out, 3, *table, *at)?,
         Record::AddPartition(part) => {
             out.push(4)?;
@@ -100,6 +105,10 @@ fn put_fields(out: &mut Vec<u8>, told: &Record) -> Result<(), NoMemory>
         }
         Record::Abort { txn, at } => put_tag(out, 8, *txn, *at)?,
         Record::Publish { txn, at } => put_tag(out, 9, *txn, *at)?,
+        Record::AddJob(job) => {
+            out.push(10)?;
+            job.put(out)?;
+        }
         Record::JobWaiting {
             job,
             watershed,

@@ -8,13 +8,12 @@ use Rattle.front_defs.specs.declared.history.Entry.TheVariants.{Made}
 use Rattle.front_defs.specs.May.{May}
 use Rattle.front_defs.specs.Script.{Script, Asks, Works, Served, Leads, Moved, Answered, after}
 use Rattle.front_defs.specs.Turn.{Turned}
-use Rattle.std.specs.Ptr.{null_ptr}
 use Rattle.dl_values.specs.declared.cell.Cell.{Cell}
 use Rattle.shadow_writes.specs.declared.built.Built.{Built}
 use Rattle.shadow_writes.specs.declared.plan.Plan.{Plan}
 use Rattle.load_server.specs.Exchanges.{AnsweredBy}
 use Rattle.load_server.specs.Responses.{Response}
-use Rattle.load_server.proofs.BuildingFacts.{building_at, building_is}
+use Rattle.load_server.proofs.BuildingFacts.{building_by, building_is}
 
 pub after-append : (E F : List Call) (H : List Entry) → after (E ++ F) H ≡ after F (after E H)
 after-append [] F H = refl
@@ -126,7 +125,7 @@ abbrev pub Way : Type 0
 Way = Plan → List (List Cell) → Built
 
 pub by_any : (stands : List Entry → List Entry → Type 0) (seen own : List Entry) (script : Script Response) (response : Response) → Answered stands seen own script response → AnsweredBy stands seen own (λ b. script) response
-by_any stands seen own script response a = record { building = building_at null_ptr; builds = building_is null_ptr; answered = a }
+by_any stands seen own script response a = record { building = building_by []; builds = building_is []; answered = a }
 
 pub by_as : (stands : List Entry → List Entry → Type 0) (seen own : List Entry) (script other : Way → Script Response) (response : Response) → ((b : Way) → other b ≡ script b) → AnsweredBy stands seen own script response → AnsweredBy stands seen own other response
 by_as stands seen own script other response e a = record { building = a.building; builds = a.builds; answered = answered_as stands seen own (script a.building) (other a.building) response (e a.building) a.answered }
@@ -135,7 +134,7 @@ pub by_done : (stands : List Entry → List Entry → Type 0) (seen own : List E
 by_done stands seen own script lacking response a = record { building = a.building; builds = a.builds; answered = answered_done stands seen own (script a.building) lacking response a.answered }
 
 pub by_lacking : (stands : List Entry → List Entry → Type 0) (seen own : List Entry) (script : Way → Script Response) (lacking : Script Response) (response : Response) → Answered stands seen own lacking response → AnsweredBy stands seen own (λ b. Works (script b) lacking) response
-by_lacking stands seen own script lacking response a = record { building = building_at null_ptr; builds = building_is null_ptr; answered = answered_lacking stands seen own (script (building_at null_ptr)) lacking response a }
+by_lacking stands seen own script lacking response a = record { building = building_by []; builds = building_is []; answered = answered_lacking stands seen own (script (building_by [])) lacking response a }
 
 pub by_asks : {n m : ℕ} (old mid new : List Entry → List Entry → Type 0) (seen own : List Entry) (c : Command) (next : Way → Reply → Script Response) (r : Reply) (response : Response)
     → Turn old mid n m c r → old seen own → May own c

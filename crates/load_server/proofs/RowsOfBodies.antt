@@ -1,4 +1,4 @@
--- The rows of a body are of the shape by which it is read.
+-- The rows of a body are of the shape by which it is read, and inside what they have to lie in.
 use Rattle.std.proofs.Common.{◌≡◌, ◌∙◌, ◌+◌, ◌*◌, ◌/◌, ◌%◌, ◌≤◌, ◌==◌, ℕ, ℤ, Bool, true, false, not, ◌&&◌, List, [], ◌∷◌, Option, Some, None, if◌then◌else◌, nat_le, length, refl, ap, arith}
 use Rattle.std.proofs.lemmas.Bool.{false≢true}
 use Rattle.std.proofs.lemmas.Bool.Decides.{nat_tests}
@@ -18,7 +18,10 @@ use Rattle.schema_models.specs.CellTypes.{fits_column, is_calendar_day, is_of_ty
 use Rattle.schema_models.specs.RowRules.{IsOfShape, fits_columns}
 use Rattle.schema_models.specs.ShapeView.{ShapeView}
 use Rattle.schema_models.specs.declared.column_def.ColumnDef.{ColumnDef}
-use Rattle.load_server.specs.Scripts.{everywhere}
+use Rattle.partitions.specs.Places.{is_inside}
+use Rattle.shadow_writes.specs.declared.plan.Plan.{Plan}
+use Rattle.front_defs.specs.Stored.{AreRowsOf}
+use Rattle.load_server.specs.Scripts.{parsed_by}
 
 -- what an optional value is, where it is there
 abbrev Each : {X : Type 0} → (X → Type 0) → Option X → Type 0
@@ -140,9 +143,21 @@ cells_fit strict [] (f ∷ fs) = tt
 cells_fit strict (c ∷ cs) [] = tt
 cells_fit strict (c ∷ cs) (f ∷ fs) = onto_fits c cs (cell_of strict c f) (cells_of strict cs fs) (cell_fits strict c f) (cells_fit strict cs fs)
 
-inside_fits : (P : List Cell → Type 0) (row : Option (List Cell)) → Each P row → Each P (only_inside everywhere row)
-inside_fits P None h = tt
-inside_fits P (Some row) h = h
+inside_fits : (P : List Cell → Type 0) (inside : List Cell → Bool) (row : Option (List Cell)) → Each P row → Each P (only_inside inside row)
+inside_fits P inside None h = tt
+inside_fits P inside (Some row) h = go (inside row)
+  where
+    go : (b : Bool) → Each P (if b then Some row else None)
+    go true = h
+    go false = tt
+
+inside_holds : (inside : List Cell → Bool) (row : Option (List Cell)) → Each (λ r. inside r ≡ true) (only_inside inside row)
+inside_holds inside None = tt
+inside_holds inside (Some row) = go (inside row) refl
+  where
+    go : (b : Bool) → inside row ≡ b → Each (λ r. inside r ≡ true) (if b then Some row else None)
+    go true e = e
+    go false e = tt
 
 one_filtered : (P : List Cell → Type 0) (o : Option (List Cell)) (rows : List (List Cell)) → Each P o → AllByRecursion P rows → AllByRecursion P (cons_option o rows)
 one_filtered P None rows h k = k
@@ -152,7 +167,15 @@ all_filtered : {X : Type 0} (P : List Cell → Type 0) (f : X → Option (List C
 all_filtered P f h [] = tt
 all_filtered P f h (x ∷ xs) = one_filtered P (f x) (filter_map f xs) (h x) (all_filtered P f h xs)
 
-pub rows_are_of_shape : (s : ShapeView) (options : Options) (bytes : List ℕ) → AllByRecursion (IsOfShape s) (parsed_of s everywhere options bytes).rows
+rows_are_of_shape : (s : ShapeView) (inside : List Cell → Bool) (options : Options) (bytes : List ℕ) → AllByRecursion (IsOfShape s) (parsed_of s inside options bytes).rows
 unfolding tally
-rows_are_of_shape s options bytes =
-    all_filtered (IsOfShape s) (row_of everywhere options.strict s.columns) (λ fields. inside_fits (IsOfShape s) (cells_of options.strict s.columns fields) (cells_fit options.strict s.columns fields)) (records_by options bytes)
+rows_are_of_shape s inside options bytes =
+    all_filtered (IsOfShape s) (row_of inside options.strict s.columns) (λ fields. inside_fits (IsOfShape s) inside (cells_of options.strict s.columns fields) (cells_fit options.strict s.columns fields)) (records_by options bytes)
+
+rows_are_inside : (s : ShapeView) (inside : List Cell → Bool) (options : Options) (bytes : List ℕ) → AllByRecursion (λ r. inside r ≡ true) (parsed_of s inside options bytes).rows
+unfolding tally
+rows_are_inside s inside options bytes =
+    all_filtered (λ r. inside r ≡ true) (row_of inside options.strict s.columns) (λ fields. inside_holds inside (cells_of options.strict s.columns fields)) (records_by options bytes)
+
+pub rows_are_of_plan : (plan : Plan) (options : Options) (bytes : List ℕ) → AreRowsOf plan.base plan.layout (parsed_by plan options bytes).rows
+rows_are_of_plan plan options bytes = record { shaped = rows_are_of_shape plan.base (is_inside plan.layout) options bytes; inside = rows_are_inside plan.base (is_inside plan.layout) options bytes }

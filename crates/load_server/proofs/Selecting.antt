@@ -6,7 +6,7 @@ use Rattle.std.specs.List.{AllByRecursion, flat_map, zip}
 use Rattle.serde_json.specs.Data.{Data, string}
 use Rattle.reply_json.specs.Texts.{object_of}
 use Rattle.reply_json.specs.Results.{column_json, list_json, result_json, row_json, success_json}
-use Rattle.reply_texts.specs.Words.{type_text}
+use Rattle.front_defs.specs.Words.{type_text}
 use Rattle.dl_values.specs.declared.cell.Cell.{Cell}
 use Rattle.dl_values.specs.declared.result_set.ResultSet.{ResultSet}
 use Rattle.merge_read.specs.Lists.{AreSortedLists}

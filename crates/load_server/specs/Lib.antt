@@ -1,6 +1,7 @@
 pub mod Responses
 pub mod Reports
 pub mod Building
+pub mod WholeDef
 pub mod Scripts
 pub mod Preparing
 pub mod Results

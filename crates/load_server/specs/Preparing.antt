@@ -1,13 +1,13 @@
 -- What the body of a load that has begun gives: a built load, a refusal, or want of memory.
 use Rattle.std.specs.Prelude.{◌≡◌, ◌<◌, ◌≤◌, ℕ, true, false, List, length}
-use Rattle.csv_load.specs.Body.{body as parsed_of, records_by}
+use Rattle.csv_load.specs.Body.{records_by}
 use Rattle.csv_load.specs.Limit.{fails}
 use Rattle.csv_load.specs.Refusal.{max_records}
 use Rattle.csv_load.specs.declared.options.Options.{Options}
 use Rattle.csv_load.specs.declared.parsed.Parsed.{Parsed}
 use Rattle.shadow_writes.specs.declared.plan.Plan.{Plan}
 use Rattle.load_server.specs.Building.{IsBuiltOf}
-use Rattle.load_server.specs.Scripts.{everywhere}
+use Rattle.load_server.specs.Scripts.{parsed_by}
 use Rattle.load_server.specs.declared.prepare.Prepared.{Prepared}
 use Rattle.load_server.specs.declared.prepare.Prepared.TheVariants as prepared
 use Rattle.load_server.specs.declared.report.Counts.{Counts}
@@ -28,4 +28,4 @@ Judges plan options parsed prepared.NoMemory = Unit {0}
 abbrev pub Prepares : Plan → Options → List ℕ → Prepared → Type 0
 Prepares plan options body prepared.TooManyRows = max_records < length (records_by options body)
 Prepares plan options body prepared.NoMemory = Unit {0}
-Prepares plan options body result = (length (records_by options body) ≤ max_records) × Judges plan options (parsed_of plan.base everywhere options body) result
+Prepares plan options body result = (length (records_by options body) ≤ max_records) × Judges plan options (parsed_by plan options body) result

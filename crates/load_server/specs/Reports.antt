@@ -5,8 +5,9 @@ use Rattle.reply_json.specs.Loads.{load_json}
 use Rattle.reply_json.specs.declared.load_report.LoadReport.{LoadReport}
 use Rattle.reply_json.specs.declared.load_report.LoadReport.TheVariants as report
 use Rattle.reply_texts.specs.Texts.{refusal_text}
-use Rattle.reply_texts.specs.Words.{job_text, state_text}
+use Rattle.reply_texts.specs.Words.{job_text}
 use Rattle.front_defs.specs.Answer.{label_for}
+use Rattle.front_defs.specs.Words.{state_text}
 use Rattle.front_defs.specs.declared.reply.Reply.TheVariants as reply
 use Rattle.load_server.specs.Responses.{Response, well}
 use Rattle.load_server.specs.declared.sent.Sent.{Sent}

@@ -4,7 +4,7 @@ use Rattle.std.specs.List.{flat_map}
 use Rattle.serde_json.specs.Data.{Data, string}
 use Rattle.reply_json.specs.Texts.{object_of}
 use Rattle.reply_json.specs.Results.{list_json, row_json, column_json, success_json}
-use Rattle.reply_texts.specs.Words.{type_text}
+use Rattle.front_defs.specs.Words.{type_text}
 use Rattle.dl_values.specs.declared.cell.Cell.{Cell}
 use Rattle.schema_models.specs.Folds.{fold_of}
 use Rattle.schema_models.specs.ShapeView.{ShapeView}

@@ -9,6 +9,7 @@ mod build;
 mod exchange;
 mod load;
 mod loading;
+mod places;
 mod prepare;
 mod publish;
 mod refusal;
@@ -21,6 +22,7 @@ mod sessions;
 mod solo;
 mod statement;
 mod submit;
+mod whole_def;
 
 pub use session_end::SessionEnd;
 pub use sessions::{MAX_REQUESTS, session};

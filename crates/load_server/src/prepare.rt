@@ -3,6 +3,7 @@ ghost use Rattle.std.specs.Prelude.{◌≡◌};
 ghost use Rattle.load_server.specs.Preparing.{Prepares};
 
 use crate::build::build;
+use crate::places::Places;
 use crate::report::Counts;
 use csv_load::{BodyFault, Options, Parsed, fails, read_body};
 use dl_values::NoMemory;
@@ -31,23 +32,26 @@ pub fn prepare(alloc: Global, plan: Plan, options: &Options, body: Vec<u8>) -> P
 }
 
 ghost use Rattle.std.specs.Prelude.{IfErr, IfOk, OnOk, length, ◌≤◌};
-ghost use Rattle.csv_load.specs.Body.{body as parsed_of, records_by};
+ghost use Rattle.csv_load.specs.Body.{records_by};
 ghost use Rattle.csv_load.specs.Refusal.{Explains, max_records};
-ghost use Rattle.load_server.specs.Scripts.{everywhere};
+ghost use Rattle.load_server.specs.Scripts.{parsed_by};
 
 fn parse(alloc: Global, plan: &Plan, options: &Options, body: Vec<u8>) -> Result<Parsed, BodyFault>
-    ensures parsed { IfOk result (λ p. p ≡ parsed_of plan.now.base everywhere options.now body.items) }
+    ensures parsed { IfOk result (λ p. p ≡ parsed_by plan.now options.now body.items) }
     ensures within { OnOk result (length (records_by options.now body.items) ≤ max_records) }
     ensures refused { IfErr result (Explains (length (records_by options.now body.items))) }
 {
-    read_body(alloc, &plan.base, None::<&()>, options, body.as_slice())
+    let places = Places {
+        layout: &plan.layout,
+    };
+    read_body(alloc, &plan.base, Some(&places), options, body.as_slice())
 }
 
 ghost use Rattle.front_defs.specs.Stored.{AreRowsOf};
 ghost use Rattle.load_server.specs.Preparing.{Judges};
 
 fn judge(alloc: Global, plan: Plan, options: &Options, parsed: Parsed) -> Prepared
-    requires { AreRowsOf plan.base parsed.rows }
+    requires { AreRowsOf plan.base plan.layout parsed.rows }
     ensures { Judges plan options.now parsed result }
 {
     let counts = Counts {

@@ -8,7 +8,8 @@ ghost use Rattle.load_server.specs.Responses.{response_of};
 ghost use Rattle.load_server.specs.Scripts.{made as made_or_lacking};
 ghost use Rattle.reply_json.specs.declared.load_report.LoadReport.TheVariants as report;
 ghost use Rattle.reply_texts.specs.Texts.{refusal_text as text_of_refusal};
-ghost use Rattle.reply_texts.specs.Words.{job_text as job_of, state_text as state_of};
+ghost use Rattle.front_defs.specs.Words.{state_text as state_of};
+ghost use Rattle.reply_texts.specs.Words.{job_text as job_of};
 
 use crate::answer::{Answer, made};
 use crate::sent::{Sent, label_of, told_label};

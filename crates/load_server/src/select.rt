@@ -9,7 +9,7 @@ ghost use Rattle.rowsets.specs.RowsetView.{rowset_rows};
 ghost use Rattle.load_server.specs.Responses.{response_of, well};
 ghost use Rattle.load_server.specs.Results.{all_json};
 ghost use Rattle.load_server.specs.Scripts.{after_snapshot, all_of, selecting, made as made_or_lacking};
-ghost use Rattle.reply_texts.specs.Words.{type_text as text_of_type};
+ghost use Rattle.front_defs.specs.Words.{type_text as text_of_type};
 ghost use Rattle.serde_json.specs.Written.{compact_text};
 
 use crate::answer::{Answer, made};

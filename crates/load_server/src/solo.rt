@@ -5,6 +5,7 @@ ghost use Rattle.load_server.specs.Alone.{IsAlone};
 use dl_outside::Steps;
 use front_core::Front;
 use front_defs::{Command, Reply, Turns};
+use front_laws::parted;
 use std::alloc::Global;
 use std::sync::ledger::Ledger;
 
@@ -19,6 +20,7 @@ impl Solo {
     pub fn new(alloc: Global) -> Solo
         ensures { IsAlone result.front [] [] }
     {
+        parted::an_empty_front_stands_for_nothing();
         Solo {
             front: Front::new(alloc),
         }

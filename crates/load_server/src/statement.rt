@@ -4,19 +4,20 @@ ghost use Rattle.front_defs.specs.declared.command.Command.TheVariants as comman
 ghost use Rattle.front_defs.specs.declared.history.Entry.{Entry};
 ghost use Rattle.front_defs.specs.Script.{Answered, Asks, Served};
 ghost use Rattle.load_server.specs.Responses.{response_of, well};
-ghost use Rattle.load_server.specs.Scripts.{after_create, refused, made as made_or_lacking};
+ghost use Rattle.load_server.specs.Scripts.{after_create, creating, refused, made as made_or_lacking};
 ghost use Rattle.reply_json.specs.Results.{done_json};
 ghost use Rattle.reply_json.specs.Statements.{refused_json};
 ghost use Rattle.reply_texts.specs.Texts.{refusal_text as text_of_refusal};
 ghost use Rattle.serde_json.specs.Written.{compact_text};
 
 use crate::answer::{Answer, made};
+use crate::whole_def::whole_def;
 use dl_outside::Steps;
 use dl_values::{Name, NoMemory, Text};
 use front_defs::{Command, Reply, Turns};
 use reply_json::{render_done, render_refused};
 use reply_texts::refusal_text;
-use sql_text::PlainDef;
+use sql_text::{PlainDef, TableDef};
 use std::alloc::Global;
 use std::sync::ledger::Ledger;
 
@@ -44,6 +45,22 @@ pub fn create_table<T: Turns, L: Ledger>(
     db: Name,
     table: Name,
     def: PlainDef,
+    steps: &mut Steps<L>,
+) -> Answer
+    ensures { (seen own : List Entry) → T.stands turns.old seen own → Answered (T.stands turns.new) seen own (creating db table def) (response_of result) }
+{
+    match whole_def(alloc, def) {
+        Ok(def) => make_table(alloc, turns, db, table, def, steps),
+        Err(NoMemory) => Answer::OutOfMemory,
+    }
+}
+
+fn make_table<T: Turns, L: Ledger>(
+    alloc: Global,
+    turns: &mut T,
+    db: Name,
+    table: Name,
+    def: TableDef,
     steps: &mut Steps<L>,
 ) -> Answer
     ensures { (seen own : List Entry) → T.stands turns.old seen own → Answered (T.stands turns.new) seen own (Asks (command.CreateTable db table def false) after_create) (response_of result) }

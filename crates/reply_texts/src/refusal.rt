@@ -1,13 +1,14 @@
 // The texts of refusals.
 ghost use Rattle.std.specs.Prelude.{◌≡◌, ◌++◌, IfOk, OnOk};
-ghost use Rattle.reply_texts.specs.Texts.{shape_text, layout_text, def_text, refusal_text};
+ghost use Rattle.reply_texts.specs.Texts.{shape_text, layout_text, def_text, admit_text, alter_text, refusal_text};
 
 use crate::piece::{add_number, add_texts};
-use crate::words::state_word;
+use crate::words::{job_word, state_word};
 use dl_values::{NoMemory, Text};
-use front_defs::Reply;
+use front_defs::{AlterError, Reply};
 use labels::TxnState;
 use partitions::LayoutError;
+use row_map::AdmitError;
 use schema_models::ShapeError;
 use std::alloc::Global;
 use table_defs::DefError;
@@ -63,6 +64,34 @@ fn add_def(out: &mut Vec<u8>, error: &DefError) -> Result<(), NoMemory>
     }
 }
 
+fn add_admit(out: &mut Vec<u8>, error: &AdmitError) -> Result<(), NoMemory>
+    ensures { OnOk result (out.new.items ≡ out.old.items ++ admit_text error.now) }
+{
+    match error {
+        AdmitError::NoColumn { column } => add_texts(out, b"NoColumn column=", column.bytes()),
+        AdmitError::BadCast { column } => add_texts(out, b"BadCast column=", column.bytes()),
+        AdmitError::SumType { column } => add_texts(out, b"SumType column=", column.bytes()),
+        AdmitError::NeedsMonotone { column } => {
+            add_texts(out, b"NeedsMonotone column=", column.bytes())
+        }
+        AdmitError::NeedsOneToOne { column } => {
+            add_texts(out, b"NeedsOneToOne column=", column.bytes())
+        }
+        AdmitError::SumDefault { column } => add_texts(out, b"SumDefault column=", column.bytes()),
+        AdmitError::NeedsKey { column } => add_texts(out, b"NeedsKey column=", column.bytes()),
+    }
+}
+
+fn add_alter(out: &mut Vec<u8>, error: &AlterError) -> Result<(), NoMemory>
+    ensures { OnOk result (out.new.items ≡ out.old.items ++ alter_text error.now) }
+{
+    match error {
+        AlterError::NoColumn(column) => add_texts(out, b"NoColumn column=", column.bytes()),
+        AlterError::Shape(error) => add_shape(out, *error),
+        AlterError::Map(error) => add_admit(out, error),
+    }
+}
+
 fn add_used(out: &mut Vec<u8>, txn: u64, state: TxnState) -> Result<(), NoMemory>
     ensures { OnOk result (out.new.items ≡ out.old.items ++ refusal_text (Reply.Used txn state)) }
 {
@@ -78,8 +107,16 @@ fn add_refusal(out: &mut Vec<u8>, reply: &Reply) -> Result<(), NoMemory>
         | Reply::Begun { .. }
         | Reply::Submitted { .. }
         | Reply::Published { .. }
+        | Reply::Committed { .. }
         | Reply::Aborted { .. }
-        | Reply::Snap { .. } => Ok(()),
+        | Reply::Swept { .. }
+        | Reply::Snap { .. }
+        | Reply::Shown { .. }
+        | Reply::Added { .. }
+        | Reply::Cancelled { .. }
+        | Reply::Advanced { .. }
+        | Reply::Taken { .. }
+        | Reply::Given { .. } => Ok(()),
         Reply::BadName => Ok(out.extend_from_slice(b"BadName")?),
         Reply::DbExists => Ok(out.extend_from_slice(b"DbExists")?),
         Reply::TooManyDbs => Ok(out.extend_from_slice(b"TooManyDbs")?),
@@ -88,13 +125,26 @@ fn add_refusal(out: &mut Vec<u8>, reply: &Reply) -> Result<(), NoMemory>
         Reply::TooManyTables => Ok(out.extend_from_slice(b"TooManyTables")?),
         Reply::BadTable { error } => add_def(out, error),
         Reply::UnknownTable => Ok(out.extend_from_slice(b"UnknownTable")?),
+        Reply::BadPartition { error } => add_layout(out, error),
         Reply::BadLabel => Ok(out.extend_from_slice(b"BadLabel")?),
         Reply::Used { txn, state } => add_used(out, *txn, *state),
         Reply::NoSuchTxn => Ok(out.extend_from_slice(b"NoSuchTxn")?),
         Reply::WrongState { state } => add_texts(out, b"WrongState state=", state_word(*state)),
         Reply::Expired { since } => add_number(out, b"Expired since=", *since),
         Reply::NothingToPublish => Ok(out.extend_from_slice(b"NothingToPublish")?),
+        Reply::NothingToSweep => Ok(out.extend_from_slice(b"NothingToSweep")?),
+        Reply::Busy { job } => add_number(out, b"Busy job=", *job),
+        Reply::TooManyJobs => Ok(out.extend_from_slice(b"TooManyJobs")?),
+        Reply::TooManyRollups => Ok(out.extend_from_slice(b"TooManyRollups")?),
+        Reply::DoubleName => Ok(out.extend_from_slice(b"DoubleName")?),
+        Reply::BadAlter { error } => add_alter(out, error),
+        Reply::NoJob => Ok(out.extend_from_slice(b"NoJob")?),
+        Reply::NothingToAdvance => Ok(out.extend_from_slice(b"NothingToAdvance")?),
+        Reply::NoTask => Ok(out.extend_from_slice(b"NoTask")?),
+        Reply::Stale { live } => add_number(out, b"Stale live=", *live),
+        Reply::TaskOver { state } => add_texts(out, b"TaskOver state=", job_word(*state)),
         Reply::KeeperFault => Ok(out.extend_from_slice(b"KeeperFault")?),
+        Reply::BadJournal { seq } => add_number(out, b"BadJournal seq=", *seq),
         Reply::NoMemory => Ok(out.extend_from_slice(b"NoMemory")?),
     }
 }

@@ -1,8 +1,10 @@
 // The words for states and types.
 ghost use Rattle.std.specs.Prelude.{◌≡◌, IfOk};
-ghost use Rattle.reply_texts.specs.Words.{state_text, job_text, type_text};
+ghost use Rattle.front_defs.specs.Words.{job_state_text, state_text, type_text};
+ghost use Rattle.reply_texts.specs.Words.{job_text};
 
 use crate::piece::add_number;
+use alter_core::JobState;
 use dl_values::{ColType, NoMemory, Text};
 use labels::TxnState;
 use std::alloc::Global;
@@ -17,6 +19,19 @@ pub fn state_word(state: TxnState) -> &'static [u8]
         TxnState::Committed => b"COMMITTED",
         TxnState::Visible => b"VISIBLE",
         TxnState::Aborted => b"ABORTED",
+    }
+}
+
+// The word for the state of a job.
+pub fn job_word(state: JobState) -> &'static [u8]
+    ensures { result.now ≡ job_state_text state }
+{
+    match state {
+        JobState::Pending => b"PENDING",
+        JobState::WaitingTxn => b"WAITING_TXN",
+        JobState::Running => b"RUNNING",
+        JobState::Finished => b"FINISHED",
+        JobState::Cancelled => b"CANCELLED",
     }
 }
 

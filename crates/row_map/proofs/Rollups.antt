@@ -18,7 +18,7 @@ use Rattle.schema_models.specs.CellsByName.{cell_under, names_of}
 use Rattle.row_map.specs.declared.map.Origin.TheVariants as origin
 use Rattle.row_map.specs.Maps.{Converts, by_names, cast_by, cast_cell, cell_by, cells_by, column_named, picked, picked_one, put_first, rollup_map, same_type, standing, unknown_column}
 
-same_itself : (k : ColType) → same_type k k ≡ true
+pub same_itself : (k : ColType) → same_type k k ≡ true
 same_itself kind.TinyInt = refl
 same_itself kind.SmallInt = refl
 same_itself kind.Int = refl
@@ -61,7 +61,7 @@ put_some None b h k = absurd (cc)
 put_some (Some x) None h k = absurd (cc)
 put_some (Some x) (Some r) h k = refl
 
-known_cons : (columns : List ColumnDef) (n : List ℕ) (ns : List (List ℕ)) (o : Option ColumnDef) → cond (is_none o) (Some n) (find (λ k. is_none (column_named k columns)) ns) ≡ None → ((c : ColumnDef) × (o ≡ Some c)) × (find (λ k. is_none (column_named k columns)) ns ≡ None)
+pub known_cons : (columns : List ColumnDef) (n : List ℕ) (ns : List (List ℕ)) (o : Option ColumnDef) → cond (is_none o) (Some n) (find (λ k. is_none (column_named k columns)) ns) ≡ None → ((c : ColumnDef) × (o ≡ Some c)) × (find (λ k. is_none (column_named k columns)) ns ≡ None)
 known_cons columns n ns None h = absurd (cc)
 known_cons columns n ns (Some c) h = ((c, refl), h)
 

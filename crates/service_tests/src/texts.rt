@@ -1,9 +1,11 @@
 // The texts as tables, written by hand.
+use alter_core::JobState;
 use dl_values::{ColType, Name};
-use front_defs::Reply;
+use front_defs::{AlterError, Reply};
 use labels::TxnState;
 use partitions::LayoutError;
 use reply_texts::{job_text, refusal_text, state_text, type_text};
+use row_map::AdmitError;
 use schema_models::ShapeError;
 use std::test::Fail;
 use table_defs::DefError;
@@ -15,7 +17,7 @@ fn a_refusal_has_its_name_and_its_fields(rt: HostRuntime) -> Result<(), Fail> {
         txn: 1,
         state: TxnState::Visible,
     };
-    let table: [(Reply, &str); 8] = [
+    let table: [(Reply, &str); 15] = [
         (used, "Used txn=1 state=VISIBLE"),
         (Reply::Aborted { txn: 7 }, ""),
         (Reply::Done, ""),
@@ -32,6 +34,18 @@ fn a_refusal_has_its_name_and_its_fields(rt: HostRuntime) -> Result<(), Fail> {
             },
             "WrongState state=ABORTED",
         ),
+        (Reply::Added { job: 3 }, ""),
+        (Reply::NothingToSweep, "NothingToSweep"),
+        (Reply::Busy { job: 12 }, "Busy job=12"),
+        (Reply::TooManyRollups, "TooManyRollups"),
+        (Reply::Stale { live: 2 }, "Stale live=2"),
+        (
+            Reply::TaskOver {
+                state: JobState::WaitingTxn,
+            },
+            "TaskOver state=WAITING_TXN",
+        ),
+        (Reply::BadJournal { seq: 3 }, "BadJournal seq=3"),
         (Reply::KeeperFault, "KeeperFault"),
         (Reply::NoMemory, "NoMemory"),
     ];
@@ -70,6 +84,33 @@ fn a_bad_table_has_the_text_of_what_is_wrong_with_it(rt: HostRuntime) -> Result<
         let text = refusal_text(alloc, &Reply::BadTable { error })?;
         assert_eq!(rt; text.bytes(), wanted.as_bytes());
     }
+    Ok(())
+}
+
+#[test]
+fn a_bad_alteration_has_the_text_of_what_is_wrong_with_it(rt: HostRuntime) -> Result<(), Fail> {
+    let alloc = rt.alloc();
+    let unknown = Name::new(alloc, b"v")?;
+    let lacking = Name::new(alloc, b"k")?;
+    let table: [(AlterError, &str); 3] = [
+        (AlterError::NoColumn(unknown), "NoColumn column=v"),
+        (
+            AlterError::Shape(ShapeError::DoubleName { column: 1 }),
+            "DoubleName column=1",
+        ),
+        (
+            AlterError::Map(AdmitError::NeedsKey { column: lacking }),
+            "NeedsKey column=k",
+        ),
+    ];
+    for (error, wanted) in table {
+        let text = refusal_text(alloc, &Reply::BadAlter { error })?;
+        assert_eq!(rt; text.bytes(), wanted.as_bytes());
+    }
+    let name = Name::new(alloc, b"p1")?;
+    let error = LayoutError::Overlap { partition: name };
+    let text = refusal_text(alloc, &Reply::BadPartition { error })?;
+    assert_eq!(rt; text.bytes(), b"Overlap partition=p1".as_slice());
     Ok(())
 }
 

@@ -7,7 +7,7 @@ use partitions::Layout;
 use rowsets::Rowset;
 use schema_models::{ColumnDef, Model, Role, Shape};
 use shadow_writes::{Built, Mapped, Plan, TabletRows};
-use sql_text::{PlainColumn, PlainDef, Query};
+use sql_text::{ColumnText, ColumnType, Query, TableDef};
 use sqlite_items::Items;
 use std::alloc::Global;
 use std::sync::Arc;
@@ -38,18 +38,23 @@ fn names(alloc: Global, text: &str) -> Result<Items<Name>, NoMemory> {
     Ok(names)
 }
 
-fn def(alloc: Global, hash: &str) -> Result<PlainDef, NoMemory> {
+// A table of one tablet.
+fn def(alloc: Global, hash: &str) -> Result<TableDef, NoMemory> {
     let mut columns = Items::new(alloc);
-    columns.push(PlainColumn {
+    columns.push(ColumnText {
         name: name(alloc, "k")?,
-        kind: ColType::Int,
+        kind: ColumnType::Int,
+        agg: None,
         nullable: false,
+        default: None,
     })?;
-    Ok(PlainDef {
+    Ok(TableDef {
         columns,
         key: None,
+        ranges: None,
         hash: names(alloc, hash)?,
-        buckets: None,
+        buckets: Some(1),
+        properties: Items::new(alloc),
     })
 }
 
@@ -66,12 +71,13 @@ fn plan(alloc: Global, txn: u64) -> Result<Plan, NoMemory> {
         Ok(shape) => shape,
         Err(_) => return Err(NoMemory),
     };
-    let layout = Layout::whole(alloc, &base, name(alloc, "t")?, names(alloc, "k")?, 10)?;
+    let layout = Layout::whole(alloc, &base, name(alloc, "t")?, names(alloc, "k")?, 1)?;
     Ok(Plan {
         txn,
         schema: 0,
         layout,
         base,
+        targets: Items::new(alloc),
     })
 }
 

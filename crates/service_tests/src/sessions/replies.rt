@@ -118,6 +118,7 @@ fn plan(alloc: Global, txn: u64) -> Result<Plan, NoMemory>
         schema: 0,
         layout,
         base,
+        targets: Items::new(alloc),
     })
 }
 
@@ -187,6 +188,8 @@ fn letter_of(command: &Command) -> u8 {
         Command::Publish { .. } => b'P',
         Command::Abort { .. } => b'A',
         Command::Snapshot { .. } => b'Q',
+        // A session asks nothing else.
+        _ => b'?',
     }
 }
 

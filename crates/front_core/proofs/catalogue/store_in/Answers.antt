@@ -1,16 +1,27 @@
-use Rattle.rowsets.specs.RowsetView.{rowset_rows}
-use Rattle.std.proofs.Common.{◌≡◌, Some, position, nat_eq, rules}
-use Rattle.front_defs.specs.declared.tablet_lists.TabletLists.{TabletLists}
-use Rattle.front_core.proofs.Texts.{on_ok}
-use Rattle.front_core.proofs.Tablets.{ascends_there, stores_there}
+use Rattle.std.proofs.Common.{◌≡◌, Some, position, nat_eq, rules, sym}
+use Rattle.std.proofs.lemmas.List.Quantifiers.{position-Some}
+use Rattle.std.proofs.lemmas.Result.{on_err_weaker, on_ok_weaker}
+use Rattle.front_defs.specs.May.{seen_set}
+use Rattle.front_core.specs.declared.stored_table.StoredTable.{StoredTable}
+use Rattle.front_core.proofs.Tablets.{ascends_there, known_there, stores_there, unseen_there}
 use Rattle.front_core.proofs.catalogue.store_in.Goals as goal
 
 pub returns-in-Some-clause-ok : goal.returns-in-Some-clause-ok
 returns-in-Some-clause-ok c =
-    let e : Some c.in-Some.i ≡ position (λ (k : TabletLists). nat_eq k.table c.args.table) c.args.tablets.now.items = search rules in
-    on_ok c.add_list.result _ _ (stores_there c.args.table c.in-Some.i (rowset_rows c.args.rowset.now.value) c.index_mut.result.now c.add_list.new.stored c.args.tablets.now.items e c.index_mut.ensures.value) c.add_list.ensures.ok
+    let e : Some c.in-Some.i ≡ position (λ (k : StoredTable). nat_eq k.table c.args.table) c.args.tablets.now.items = search rules in
+    on_ok_weaker c.add_set.result (stores_there c.args.table c.in-Some.i (seen_set c.args.rows.now) c.index_mut.result.now c.add_set.new.stored c.args.tablets.now.items e c.index_mut.ensures.value) c.add_set.ensures.ok
+
+pub returns-in-Some-clause-err : goal.returns-in-Some-clause-err
+returns-in-Some-clause-err c = on_err_weaker c.add_set.result (unseen_there c.in-Some.i c.index_mut.result.now c.add_set.new.stored c.args.tablets.now.items c.index_mut.ensures.value) c.add_set.ensures.err
+
+pub returns-in-Some-clause-known : goal.returns-in-Some-clause-known
+returns-in-Some-clause-known c =
+    let e : Some c.in-Some.i ≡ position (λ (k : StoredTable). nat_eq k.table c.args.table) c.args.tablets.now.items = search rules in
+    let w = position-Some (λ (k : StoredTable). nat_eq k.table c.args.table) c.args.tablets.now.items c.in-Some.i c.index_mut.result.now (sym e) in
+    λ last k. known_there last c.in-Some.i c.index_mut.result.now c.add_set.new.stored c.args.tablets.now.items w.0 c.index_mut.ensures.value c.add_set.ensures.table k
 
 pub returns-in-Some-clause-ascends : goal.returns-in-Some-clause-ascends
 returns-in-Some-clause-ascends c =
-    let e : Some c.in-Some.i ≡ position (λ (k : TabletLists). nat_eq k.table c.args.table) c.args.tablets.now.items = search rules in
-    ascends_there c.args.table c.in-Some.i c.index_mut.result.now c.add_list.new.stored c.args.tablets.now.items e c.index_mut.ensures.value c.add_list.ensures.table c.requires
+    let e : Some c.in-Some.i ≡ position (λ (k : StoredTable). nat_eq k.table c.args.table) c.args.tablets.now.items = search rules in
+    let w = position-Some (λ (k : StoredTable). nat_eq k.table c.args.table) c.args.tablets.now.items c.in-Some.i c.index_mut.result.now (sym e) in
+    ascends_there c.in-Some.i c.index_mut.result.now c.add_set.new.stored c.args.tablets.now.items w.0 c.index_mut.ensures.value c.add_set.ensures.table c.requires

@@ -1,7 +1,7 @@
 use Rattle.std.proofs.Common.{ap, ◌≡◌, rules, position, nat_eq, Some, None}
 use Rattle.front_core.specs.declared.kept.Kept.{Kept}
 use Rattle.front_core.specs.Parts.{submitted_at, given}
-use Rattle.front_core.specs.Seen.{seen, waits, rows_in, folded_in}
+use Rattle.front_core.specs.Seen.{seen, waits, rows_in, sets_in}
 use Rattle.front_defs.specs.Transactions.{changed}
 use Rattle.labels.specs.Labels.{finished}
 use Rattle.front_core.specs.Parts as parts
@@ -18,7 +18,7 @@ returns-in-None-clause-txns c =
 pub returns-in-None-clause-waiting : goal.returns-in-None-clause-waiting
 returns-in-None-clause-waiting c =
     let e : None ≡ position (λ (k : Kept). nat_eq k.id c.args.id) c.args.kept.now.items = search rules in
-    misses c.args.id waits (given c.args.id (folded_in c.args.held)) (given_spares c.args.id (folded_in c.args.held)) c.args.kept.now.items e
+    misses c.args.id waits (given c.args.id (sets_in c.args.held)) (given_spares c.args.id (sets_in c.args.held)) c.args.kept.now.items e
 
 pub returns-in-Some-clause-txns : goal.returns-in-Some-clause-txns
 returns-in-Some-clause-txns c =
@@ -28,7 +28,7 @@ returns-in-Some-clause-txns c =
 pub returns-in-Some-clause-waiting : goal.returns-in-Some-clause-waiting
 returns-in-Some-clause-waiting c =
     let e : Some c.in-Some.i ≡ position (λ (k : Kept). nat_eq k.id c.args.id) c.args.kept.now.items = search rules in
-    waiting_put c.args.id (folded_in c.args.held) c.args.kept.now.items c.in-Some.i c.index_mut.result.now c.submit.new.self c.requires e c.index_mut.ensures.value (ap waits c.submit.ensures)
+    waiting_put c.args.id (sets_in c.args.held) c.args.kept.now.items c.in-Some.i c.index_mut.result.now c.submit.new.self c.requires e c.index_mut.ensures.value (ap waits c.submit.ensures)
 
 pub returns-in-Some-clause-ascends : goal.returns-in-Some-clause-ascends
 returns-in-Some-clause-ascends c =

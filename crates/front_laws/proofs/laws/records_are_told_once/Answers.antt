@@ -1,6 +1,5 @@
-use Rattle.front_defs.specs.History.{is_told}
-use Rattle.front_laws.proofs.Keeps.{filter_twice}
+use Rattle.front_laws.proofs.Journals.{journal_twice}
 use Rattle.front_laws.proofs.laws.records_are_told_once.Goals as goal
 
 pub returns : goal.returns
-returns c = λ Es. filter_twice is_told Es
+returns c = journal_twice

@@ -1,4 +1,5 @@
-use Rattle.front_laws.proofs.Histories.{kept, reopens}
+use Rattle.front_laws.proofs.Histories.{kept}
+use Rattle.front_laws.proofs.Stories.{reopens}
 use Rattle.front_laws.proofs.laws.what_is_told_is_what_an_opening_leaves.Goals as goal
 
 pub returns-clause-story : goal.returns-clause-story

@@ -8,7 +8,7 @@ use Rattle.load_server.proofs.build.tablet_rows.Goals as goal
 pub build-requires : goal.build-requires
 build-requires c =
     let s = c.args.plan.now.base in
-    subst (λ (l : List (List Cell)). AllByRecursion (IsOfShape s) l) (sym c.in_ok-folded.ensures) (c.rows_of_a_shape_stay_so.ensures.folded s c.vouch.ensures.valid c.args.rows.now c.requires)
+    subst (λ (l : List (List Cell)). AllByRecursion (IsOfShape s) l) (sym c.in_ok-folded.ensures) (c.rows_of_a_shape_stay_so.ensures.folded s c.vouch.ensures.valid c.args.rows.now c.requires.shaped)
 
 pub returns : goal.returns
 returns c =

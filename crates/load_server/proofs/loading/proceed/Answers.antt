@@ -2,7 +2,7 @@ use Rattle.std.proofs.Common.{refl}
 use Rattle.front_defs.specs.declared.command.Command.TheVariants as command
 use Rattle.load_server.specs.Reports.{failed, too_many_filtered, too_many_rows}
 use Rattle.load_server.specs.Scripts.{reading}
-use Rattle.load_server.proofs.BuildingFacts.{building_at, building_is, place_of}
+use Rattle.load_server.proofs.BuildingFacts.{building_by, building_is}
 use Rattle.load_server.proofs.Going.{answered_as, answered_done, by_any, by_as, by_done, by_lacking}
 use Rattle.load_server.proofs.Loads.{is_built, reading_filtered, reading_many, reading_ready}
 use Rattle.load_server.proofs.loading.proceed.Goals as goal
@@ -14,8 +14,8 @@ submit-requires g c =
 pub returns-in-Ready : goal.returns-in-Ready
 returns-in-Ready g c = λ seen own s cause.
     record {
-      building = building_at (place_of c.in-Ready.built);
-      builds = building_is (place_of c.in-Ready.built);
+      building = building_by c.in-Ready.built.targets;
+      builds = building_is c.in-Ready.built.targets;
       answered = answered_done _ seen own _ _ _
           (answered_as _ seen own _ _ _ (reading_ready c.args.load c.args.body.items c.args.txn c.args.plan c.in-Ready.built c.in-Ready.counts c.in-Ready.ensures)
           (c.submit.ensures seen own s (cause (command.Submit c.args.txn c.in-Ready.built c.args.load.at) (refl, is_built c.args.load c.args.body.items c.args.plan c.in-Ready.built c.in-Ready.ensures.1.1))));

@@ -1,5 +1,5 @@
 use Rattle.std.proofs.Common.{◌≡◌, take, map}
-use Rattle.reply_texts.specs.Words.{type_text}
+use Rattle.front_defs.specs.Words.{type_text}
 use Rattle.load_server.proofs.select.types_of.Given as goal
 
 abbrev pub invariant-loop-column : goal.invariant-loop-column

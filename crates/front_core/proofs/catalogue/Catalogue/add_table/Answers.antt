@@ -1,9 +1,8 @@
-use Rattle.std.proofs.Common.{◌≡◌, ◌∙◌, ◌+◌, ◌++◌, ◌∷◌, [], None, rules, subst, sym}
+use Rattle.std.proofs.Common.{◌≡◌, ◌∙◌, ◌+◌, ◌++◌, ◌∷◌, [], None, refl, rules, subst, sym}
 use Rattle.std.specs.Map.{values_of}
 use Rattle.front_defs.specs.Catalogue.{table_named}
 use Rattle.front_defs.specs.declared.catalogue.Table.{Table}
-use Rattle.partitions.specs.LayoutRules.{IsLayout}
-use Rattle.front_core.specs.Catalogued.{key_of}
+use Rattle.front_core.specs.Catalogued.{IsPlainTable, key_of}
 use Rattle.front_core.specs.Parts.{table_of}
 use Rattle.front_core.proofs.Named.{table_is, table_more}
 use Rattle.front_core.proofs.catalogue.Catalogue.add_table.Goals as goal
@@ -21,6 +20,6 @@ invariant_of-self-2 c =
     let n : c.in-Some.number ≡ c.self.inside.last_table + 1 = search rules in
     let t : c.in_ok-tablets.tablets.table ≡ c.in-Some.number = search rules in
     let k : c.in_ok-key.key ≡ key_of c.in_ok-table.table = search rules in
-    let made : c.in_ok-table.table ≡ table_of c.args.db c.args.name c.args.made c.in-Some.number = search rules in
-    let laid : IsLayout c.in_ok-table.table.shape c.in_ok-table.table.layout = subst (λ (x : Table). IsLayout x.shape x.layout) (sym made) c.requires.laid in
-    rw (e, p) (table_more c.self.inside.tables.entries c.self.inside.tablets.items c.self.inside.last_table c.in-Some.number c.in_ok-key.key c.in_ok-table.table c.in_ok-tablets.tablets k n t laid c.self.invariant)
+    let made : c.in_ok-table.table ≡ table_of c.args.db c.args.name c.args.shape c.args.layout c.in-Some.number = search rules in
+    let plain : IsPlainTable c.in_ok-table.table = subst (λ (x : Table). IsPlainTable x) (sym made) (record { laid = c.requires.laid; rollups = refl }) in
+    rw (e, p) (table_more c.self.inside.tables.entries c.self.inside.tablets.items c.self.inside.last_table c.in-Some.number c.in_ok-key.key c.in_ok-table.table c.in_ok-tablets.tablets k n t plain c.self.invariant)

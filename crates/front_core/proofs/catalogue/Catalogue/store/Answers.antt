@@ -5,5 +5,5 @@ invariant_of-self c = record {
   keyed = c.self.invariant.keyed;
   known = c.store_in.ensures.known c.self.inside.last_table c.self.invariant.known;
   ascends = c.store_in.ensures.ascends;
-  laid = c.self.invariant.laid;
+  plain = c.self.invariant.plain;
 }

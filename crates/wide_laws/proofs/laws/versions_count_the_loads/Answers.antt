@@ -1,9 +1,0 @@
-use Rattle.wide_laws.proofs.Counted.{versions_count}
-use Rattle.wide_laws.proofs.Running.{always_whole}
-use Rattle.wide_laws.proofs.laws.versions_count_the_loads.Goals as goal
-
-pub returns-clause-counts : goal.returns-clause-counts
-returns-clause-counts c = versions_count
-
-pub returns-clause-chains : goal.returns-clause-chains
-returns-clause-chains c = λ law H l. (always_whole law H l).runs.chained

@@ -1,4 +1,0 @@
-pub mod Tidy
-pub mod Laws
-pub mod Examples
-pub mod Parted
