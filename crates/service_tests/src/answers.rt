@@ -1,8 +1,6 @@
 // Runs of `run`: requests and their responses, byte for byte.
-use super::runs::answer;
+use super::runs::compare;
 use service::Exit;
-use std::marker::Brand;
-use std::sync::ledger::Blank;
 use std::test::Fail;
 
 // A database and a table, a load as curl sends it, the load again, and a query.
@@ -26,18 +24,22 @@ const UNKNOWN_TARGET: &[u8] =
 const UNKNOWN_TARGET_ANSWERED: &[u8] =
     b"HTTP/1.1 404 Not Found\r\nContent-Type: application/json\r\nContent-Length: 20\r\n\r\n{\"error\":\"NotFound\"}HTTP/1.1 200 OK\r\nContent-Type: application/json\r\nContent-Length: 56\r\n\r\n{\"code\":0,\"data\":{\"type\":\"exec_status\"},\"msg\":\"success\"}";
 
+// Requests, how a run over them ends, and its responses.
+const RUNS: &[(&[u8], Exit, &[u8])] = &[
+    (b"", Exit::Ok, b""),
+    (FIRST_LOAD, Exit::Ok, FIRST_LOAD_ANSWERED),
+    (CUT_BODY, Exit::Refused { at: 0 }, CUT_BODY_ANSWERED),
+    (UNKNOWN_TARGET, Exit::Ok, UNKNOWN_TARGET_ANSWERED),
+];
+
+fn runs() -> &'static [(&'static [u8], Exit, &'static [u8])] {
+    RUNS
+}
+
 #[test]
 fn requests_are_answered(rt: HostRuntime) -> Result<(), Fail> {
-    let table: [(&[u8], Exit, &[u8]); 4] = [
-        (b"", Exit::Ok, b""),
-        (FIRST_LOAD, Exit::Ok, FIRST_LOAD_ANSWERED),
-        (CUT_BODY, Exit::Refused { at: 0 }, CUT_BODY_ANSWERED),
-        (UNKNOWN_TARGET, Exit::Ok, UNKNOWN_TARGET_ANSWERED),
-    ];
-    for (requests, exit, responses) in table {
-        let got = answer::<Brand>(rt.alloc(), &["run"], requests, Blank::new(1))?;
-        assert_eq!(rt; got.0, exit);
-        assert_eq!(rt; got.1.as_slice(), responses);
+    for (requests, exit, responses) in runs() {
+        compare(&rt, rt.alloc(), &["run"], requests, *exit, responses)?;
     }
     Ok(())
 }

@@ -6,6 +6,7 @@ use dl_values::NoMemory;
 use service::{Exit, run};
 use std::alloc::Global;
 use std::marker::Brand;
+use std::process::Abort;
 use std::sync::ledger::{Blank, Ledger};
 use std::test::Fail;
 
@@ -19,11 +20,13 @@ fn words_of(alloc: Global, texts: &[&str]) -> Result<Vec<String>, NoMemory> {
     Ok(words)
 }
 
-// How words and a body end a run, and what is written.
-pub fn answer<L: Ledger>(
+// How words and a body end a run, and what is written. The chosen reads and writes fail.
+fn answer<L: Ledger>(
     alloc: Global,
     words: &[&str],
     body: &[u8],
+    reads: &[u64],
+    writes: &[u64],
     blank: Blank,
 ) -> Result<(Exit, Vec<u8>), NoMemory>
     requires name { blank.name ≡ L.name }
@@ -31,8 +34,10 @@ pub fn answer<L: Ledger>(
     requires some { 0 < L.parts }
 {
     let words = words_of(alloc, words)?;
-    let mut source = MemorySource::new(Vec::from_slice(alloc, body)?, 3, Vec::new(alloc));
-    let mut sink = MemorySink::new(Vec::new(alloc), Vec::new(alloc));
+    let reads = Vec::from_slice(alloc, reads)?;
+    let writes = Vec::from_slice(alloc, writes)?;
+    let mut source = MemorySource::new(Vec::from_slice(alloc, body)?, 3, reads);
+    let mut sink = MemorySink::new(Vec::new(alloc), writes);
     let mut steps: Steps<L> = Steps::new(blank);
     let mut clock = ListClock::new(Vec::new(alloc));
     let exit = run(
@@ -46,125 +51,152 @@ pub fn answer<L: Ledger>(
     Ok((exit, Vec::from_slice(alloc, sink.bytes())?))
 }
 
-// A run over a source and a sink of which chosen calls fail.
-fn answer_with_faults<L: Ledger>(
+// Runs with words over a body, and compares how it ends and what it writes.
+pub fn compare(
+    rt: &impl Abort,
     alloc: Global,
-    reads: &[u64],
-    writes: &[u64],
-    blank: Blank,
-) -> Result<(Exit, usize), NoMemory>
-    requires name { blank.name ≡ L.name }
-    requires parts { blank.parts ≡ L.parts }
-    requires some { 0 < L.parts }
-{
-    let words = words_of(alloc, FORM)?;
-    let body = Vec::from_slice(alloc, b"2\t5\n1\t7\n2\t-1\n")?;
-    let mut source = MemorySource::new(body, 4, Vec::from_slice(alloc, reads)?);
-    let mut sink = MemorySink::new(Vec::new(alloc), Vec::from_slice(alloc, writes)?);
-    let mut steps: Steps<L> = Steps::new(blank);
-    let mut clock = ListClock::new(Vec::new(alloc));
-    let exit = run(
-        alloc,
-        &words,
-        &mut source,
-        &mut sink,
-        &mut clock,
-        &mut steps,
-    );
-    Ok((exit, sink.bytes().len()))
+    words: &[&str],
+    body: &[u8],
+    exit: Exit,
+    written: &[u8],
+) -> Result<(), Fail> {
+    let (end, found) = answer::<Brand>(alloc, words, body, &[], &[], Blank::new(1))?;
+    assert_eq!(rt; end, exit);
+    assert_eq!(rt; found.as_slice(), written);
+    Ok(())
+}
+
+// A body, how the run ends, and what is written.
+const BODIES: &[(&[u8], Exit, &[u8])] = &[
+    (b"2\t5\n1\t7\n2\t-1\n", Exit::Ok, b"1\t7\n2\t4\n"),
+    (b"", Exit::Ok, b""),
+    (
+        b"1\t9223372036854775807\n1\t1\n",
+        Exit::Ok,
+        b"1\t-9223372036854775808\n",
+    ),
+    (b"1\t2\n1\n", Exit::TooManyFiltered { line: 2 }, b""),
+    (b"1\t2\r\n\r\n3\t4\r5\t6", Exit::Ok, b"1\t2\n3\t4\n5\t6\n"),
+    (b"\xef\xbb\xbf1\t2\n", Exit::Ok, b"1\t2\n"),
+    (b" 1 \t +2 \n", Exit::Ok, b"1\t2\n"),
+    (b"\\N\t\\N\n\\N\t5\n0\t1\n", Exit::Ok, b"\\N\t5\n0\t1\n"),
+    (b"2147483647\t1\n", Exit::Ok, b"2147483647\t1\n"),
+    (
+        b"\n\n2147483648\t1\n",
+        Exit::TooManyFiltered { line: 1 },
+        b"",
+    ),
+    (
+        b"1\t9223372036854775808\n",
+        Exit::TooManyFiltered { line: 1 },
+        b"",
+    ),
+    (b"1\t+\n", Exit::TooManyFiltered { line: 1 }, b""),
+    (b"1\t\n", Exit::TooManyFiltered { line: 1 }, b""),
+    (b"\"1\"\t2\n", Exit::TooManyFiltered { line: 1 }, b""),
+    (b"1,2\n", Exit::TooManyFiltered { line: 1 }, b""),
+];
+
+// Words, and how a run with them ends over no body.
+const WORDS: &[(&[&str], Exit)] = &[
+    (&[], Exit::Usage),
+    (&["dryrun"], Exit::Usage),
+    (&["dryrun", "A"], Exit::Usage),
+    (&["dryrun", "a", "k:INT:KEY"], Exit::Usage),
+    (&["dryrun", "d", "k:INT:KEY"], Exit::Usage),
+    (&["dryrun", "D", "k:INT:KEY"], Exit::Ok),
+    (&["Dryrun", "A", "k:INT:KEY"], Exit::Usage),
+    (&["run"], Exit::Ok),
+    (&["run", "journal.db"], Exit::Usage),
+    (&["dryrun", "A", "k:INT:KEY", "help"], Exit::Usage),
+    (&["dryrun", "A", "k:INT:KEY", "--"], Exit::Usage),
+    (&["-v", "dryrun", "A", "k:INT:KEY"], Exit::Usage),
+    (&["dryrun", "A", "k:INT:KEY"], Exit::Ok),
+    (&["dryrun", "A", "v:BIGINT:SUM"], Exit::BadDef { word: 3 }),
+    (
+        &["dryrun", "A", "k:INT:KEY", "k:INT:SUM"],
+        Exit::BadDef { word: 4 },
+    ),
+    (
+        &["dryrun", "A", "k:INT:KEY", "v:INT:SUM"],
+        Exit::BadDef { word: 4 },
+    ),
+    (
+        &["dryrun", "A", "k:INT:KEY", "v:BIGINT:SUM", "l:INT:KEY", ""],
+        Exit::BadDef { word: 5 },
+    ),
+    (
+        &["dryrun", "A", "k:INT:KEY", "x", "k:INT:KEY"],
+        Exit::BadDef { word: 4 },
+    ),
+    (&["dryrun", "A", "1k:INT:KEY"], Exit::BadDef { word: 3 }),
+    (&["dryrun", "A", "k:INT:KEY:"], Exit::BadDef { word: 3 }),
+];
+
+// An exit, its status and its text.
+const EXITS: &[(Exit, u8, &str)] = &[
+    (Exit::Ok, 0, ""),
+    (Exit::ReadFault, 3, "labelload: ReadFault\n"),
+    (Exit::WriteFault, 4, "labelload: WriteFault\n"),
+    (Exit::NoMemory, 8, "labelload: NoMemory\n"),
+    (Exit::BadDef { word: 4 }, 9, "labelload: BadDef word=4\n"),
+    (
+        Exit::TooManyFiltered { line: 2 },
+        10,
+        "labelload: TooManyFiltered line=2\n",
+    ),
+    (
+        Exit::TooBig { limit: 16_777_216 },
+        12,
+        "labelload: TooBig limit=16777216\n",
+    ),
+];
+
+fn bodies() -> &'static [(&'static [u8], Exit, &'static [u8])] {
+    BODIES
+}
+
+fn words() -> &'static [(&'static [&'static str], Exit)] {
+    WORDS
+}
+
+fn exits() -> &'static [(Exit, u8, &'static str)] {
+    EXITS
 }
 
 #[test]
 fn bodies_are_folded_or_refused(rt: HostRuntime) -> Result<(), Fail> {
-    let table: [(&[u8], Exit, &[u8]); 15] = [
-        (b"2\t5\n1\t7\n2\t-1\n", Exit::Ok, b"1\t7\n2\t4\n"),
-        (b"", Exit::Ok, b""),
-        (
-            b"1\t9223372036854775807\n1\t1\n",
-            Exit::Ok,
-            b"1\t-9223372036854775808\n",
-        ),
-        (b"1\t2\n1\n", Exit::TooManyFiltered { line: 2 }, b""),
-        (b"1\t2\r\n\r\n3\t4\r5\t6", Exit::Ok, b"1\t2\n3\t4\n5\t6\n"),
-        (b"\xef\xbb\xbf1\t2\n", Exit::Ok, b"1\t2\n"),
-        (b" 1 \t +2 \n", Exit::Ok, b"1\t2\n"),
-        (b"\\N\t\\N\n\\N\t5\n0\t1\n", Exit::Ok, b"\\N\t5\n0\t1\n"),
-        (b"2147483647\t1\n", Exit::Ok, b"2147483647\t1\n"),
-        (
-            b"\n\n2147483648\t1\n",
-            Exit::TooManyFiltered { line: 1 },
-            b"",
-        ),
-        (
-            b"1\t9223372036854775808\n",
-            Exit::TooManyFiltered { line: 1 },
-            b"",
-        ),
-        (b"1\t+\n", Exit::TooManyFiltered { line: 1 }, b""),
-        (b"1\t\n", Exit::TooManyFiltered { line: 1 }, b""),
-        (b"\"1\"\t2\n", Exit::TooManyFiltered { line: 1 }, b""),
-        (b"1,2\n", Exit::TooManyFiltered { line: 1 }, b""),
-    ];
-    for (body, exit, written) in table {
-        let got = answer::<Brand>(rt.alloc(), FORM, body, Blank::new(1))?;
-        assert_eq!(rt; got.0, exit);
-        assert_eq!(rt; got.1.as_slice(), written);
+    for (body, exit, written) in bodies() {
+        compare(&rt, rt.alloc(), FORM, body, *exit, written)?;
     }
     Ok(())
 }
 
 #[test]
 fn words_are_judged_in_order(rt: HostRuntime) -> Result<(), Fail> {
-    let table: [(&[&str], Exit); 20] = [
-        (&[], Exit::Usage),
-        (&["dryrun"], Exit::Usage),
-        (&["dryrun", "A"], Exit::Usage),
-        (&["dryrun", "a", "k:INT:KEY"], Exit::Usage),
-        (&["dryrun", "d", "k:INT:KEY"], Exit::Usage),
-        (&["dryrun", "D", "k:INT:KEY"], Exit::Ok),
-        (&["Dryrun", "A", "k:INT:KEY"], Exit::Usage),
-        (&["run"], Exit::Ok),
-        (&["run", "journal.db"], Exit::Usage),
-        (&["dryrun", "A", "k:INT:KEY", "help"], Exit::Usage),
-        (&["dryrun", "A", "k:INT:KEY", "--"], Exit::Usage),
-        (&["-v", "dryrun", "A", "k:INT:KEY"], Exit::Usage),
-        (&["dryrun", "A", "k:INT:KEY"], Exit::Ok),
-        (&["dryrun", "A", "v:BIGINT:SUM"], Exit::BadDef { word: 3 }),
-        (
-            &["dryrun", "A", "k:INT:KEY", "k:INT:SUM"],
-            Exit::BadDef { word: 4 },
-        ),
-        (
-            &["dryrun", "A", "k:INT:KEY", "v:INT:SUM"],
-            Exit::BadDef { word: 4 },
-        ),
-        (
-            &["dryrun", "A", "k:INT:KEY", "v:BIGINT:SUM", "l:INT:KEY", ""],
-            Exit::BadDef { word: 5 },
-        ),
-        (
-            &["dryrun", "A", "k:INT:KEY", "x", "k:INT:KEY"],
-            Exit::BadDef { word: 4 },
-        ),
-        (&["dryrun", "A", "1k:INT:KEY"], Exit::BadDef { word: 3 }),
-        (&["dryrun", "A", "k:INT:KEY:"], Exit::BadDef { word: 3 }),
-    ];
-    for (words, exit) in table {
-        let got = answer::<Brand>(rt.alloc(), words, b"", Blank::new(1))?;
-        assert_eq!(rt; got.0, exit);
+    for (words, exit) in words() {
+        compare(&rt, rt.alloc(), words, b"", *exit, b"")?;
     }
     Ok(())
+}
+
+// How a run ends of which chosen reads and writes fail, and how many bytes it writes.
+fn ends_with_faults(
+    alloc: Global,
+    reads: &[u64],
+    writes: &[u64],
+) -> Result<(Exit, usize), NoMemory> {
+    let body = b"2\t5\n1\t7\n2\t-1\n";
+    let (exit, written) = answer::<Brand>(alloc, FORM, body, reads, writes, Blank::new(1))?;
+    Ok((exit, written.len()))
 }
 
 #[test]
 fn a_fault_in_mid_stream_ends_the_run(rt: HostRuntime) -> Result<(), Fail> {
     let alloc = rt.alloc();
-    let read = answer_with_faults::<Brand>(alloc, &[2], &[], Blank::new(1))?;
-    assert_eq!(rt; read, (Exit::ReadFault, 0));
-    let write = answer_with_faults::<Brand>(alloc, &[], &[0], Blank::new(1))?;
-    assert_eq!(rt; write, (Exit::WriteFault, 0));
-    let none = answer_with_faults::<Brand>(alloc, &[99], &[99], Blank::new(1))?;
-    assert_eq!(rt; none, (Exit::Ok, 8));
+    assert_eq!(rt; ends_with_faults(alloc, &[2], &[])?, (Exit::ReadFault, 0));
+    assert_eq!(rt; ends_with_faults(alloc, &[], &[0])?, (Exit::WriteFault, 0));
+    assert_eq!(rt; ends_with_faults(alloc, &[99], &[99])?, (Exit::Ok, 8));
     Ok(())
 }
 
@@ -186,37 +218,18 @@ fn the_column_behind_sixty_four_is_at_fault(rt: HostRuntime) -> Result<(), Fail>
     for text in &texts {
         words.push(text.as_str())?;
     }
-    let got = answer::<Brand>(alloc, &words, b"", Blank::new(1))?;
-    assert_eq!(rt; got.0, Exit::BadDef { word: 67 });
+    compare(&rt, alloc, &words, b"", Exit::BadDef { word: 67 }, b"")?;
     let _last = words.pop();
-    let got = answer::<Brand>(alloc, &words, b"", Blank::new(1))?;
-    assert_eq!(rt; got.0, Exit::Ok);
+    compare(&rt, alloc, &words, b"", Exit::Ok, b"")?;
     Ok(())
 }
 
 #[test]
 fn exits_say_what_was_wrong(rt: HostRuntime) -> Result<(), Fail> {
-    let table = [
-        (Exit::Ok, 0, ""),
-        (Exit::ReadFault, 3, "labelload: ReadFault\n"),
-        (Exit::WriteFault, 4, "labelload: WriteFault\n"),
-        (Exit::NoMemory, 8, "labelload: NoMemory\n"),
-        (Exit::BadDef { word: 4 }, 9, "labelload: BadDef word=4\n"),
-        (
-            Exit::TooManyFiltered { line: 2 },
-            10,
-            "labelload: TooManyFiltered line=2\n",
-        ),
-        (
-            Exit::TooBig { limit: 16_777_216 },
-            12,
-            "labelload: TooBig limit=16777216\n",
-        ),
-    ];
-    for (exit, status, text) in table {
+    for (exit, status, text) in exits() {
         let said = exit.text(rt.alloc())?;
-        assert_eq!(rt; said.as_str(), text);
-        assert_eq!(rt; exit.status(), status);
+        assert_eq!(rt; said.as_str(), *text);
+        assert_eq!(rt; exit.status(), *status);
     }
     assert_eq!(rt; Exit::Usage.status(), 2);
     Ok(())

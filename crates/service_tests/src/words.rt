@@ -34,72 +34,84 @@ fn told(alloc: Global, texts: &[&str]) -> Result<String, FormError> {
     Ok(text)
 }
 
+// Words, and the form that they are.
+const FORMS: &[(&[&str], &str)] = &[
+    (&["run"], "run"),
+    (&["dryrun", "A", "k:INT:KEY"], "A,k:INT:KEY"),
+    (&["dryrun", "D", "k:INT:KEY"], "D,k:INT:KEY"),
+    (&["dryrun", "U", "k:INT:KEY"], "U,k:INT:KEY"),
+    (
+        &["dryrun", "A", "k:INT:KEY", "v:BIGINT:SUM"],
+        "A,k:INT:KEY,v:BIGINT:SUM",
+    ),
+    (&["dryrun", "A", "c", "b", "a", "b"], "A,c,b,a,b"),
+    (&["dryrun", "A", "", "x", ""], "A,,x,"),
+    (&["dryrun", "A", "dryrun", "A"], "A,dryrun,A"),
+    (&["dryrun", "A", "Help", "k-", "=", "é"], "A,Help,k-,=,é"),
+];
+
+// Words that are no form.
+const OTHERS: &[&[&str]] = &[
+    &["Run"],
+    &["run", ""],
+    &["run", "run"],
+    &["run", "journal.db"],
+    &["run", "help"],
+    &["run", "-"],
+    &["--", "run"],
+    &["runs"],
+    &["dryrun", "d", "k:INT:KEY"],
+    &["dryrun", "DU", "k:INT:KEY"],
+    &[],
+    &[""],
+    &["dryrun"],
+    &["dryrun", "A"],
+    &["A", "k:INT:KEY"],
+    &["dryrun", "k:INT:KEY"],
+    &["Dryrun", "A", "k:INT:KEY"],
+    &["dryrun ", "A", "k:INT:KEY"],
+    &["dry", "A", "k:INT:KEY"],
+    &["", "A", "k:INT:KEY"],
+    &["dryrun", "", "k:INT:KEY"],
+    &["", "dryrun", "A", "k:INT:KEY"],
+    &["dryrun", "a", "k:INT:KEY"],
+    &["dryrun", "AA", "k:INT:KEY"],
+    &["dryrun", "B", "k:INT:KEY"],
+    &["-v", "dryrun", "A", "k:INT:KEY"],
+    &["-dryrun", "A", "k:INT:KEY"],
+    &["dryrun", "-A", "k:INT:KEY"],
+    &["dryrun", "A", "-k:INT:KEY"],
+    &["dryrun", "A", "k:INT:KEY", "-"],
+    &["--"],
+    &["--", "dryrun", "A", "k:INT:KEY"],
+    &["dryrun", "--", "A", "k:INT:KEY"],
+    &["dryrun", "A", "--", "k:INT:KEY"],
+    &["dryrun", "A", "k:INT:KEY", "--"],
+    &["help"],
+    &["help", "A", "k:INT:KEY"],
+    &["dryrun", "A", "k:INT:KEY", "help"],
+];
+
+fn forms() -> &'static [(&'static [&'static str], &'static str)] {
+    FORMS
+}
+
+fn others() -> &'static [&'static [&'static str]] {
+    OTHERS
+}
+
 #[test]
 fn forms_are_told(rt: HostRuntime) -> Result<(), Fail> {
-    let table: [(&[&str], &str); 9] = [
-        (&["run"], "run"),
-        (&["dryrun", "A", "k:INT:KEY"], "A,k:INT:KEY"),
-        (&["dryrun", "D", "k:INT:KEY"], "D,k:INT:KEY"),
-        (&["dryrun", "U", "k:INT:KEY"], "U,k:INT:KEY"),
-        (
-            &["dryrun", "A", "k:INT:KEY", "v:BIGINT:SUM"],
-            "A,k:INT:KEY,v:BIGINT:SUM",
-        ),
-        (&["dryrun", "A", "c", "b", "a", "b"], "A,c,b,a,b"),
-        (&["dryrun", "A", "", "x", ""], "A,,x,"),
-        (&["dryrun", "A", "dryrun", "A"], "A,dryrun,A"),
-        (&["dryrun", "A", "Help", "k-", "=", "é"], "A,Help,k-,=,é"),
-    ];
-    for (words, text) in table {
+    for (words, text) in forms() {
         let got = told(rt.alloc(), words)?;
-        assert_eq!(rt; got.as_str(), text);
+        assert_eq!(rt; got.as_str(), *text);
     }
     Ok(())
 }
 
 #[test]
 fn other_words_are_usage(rt: HostRuntime) -> Result<(), Fail> {
-    let table: [&[&str]; 38] = [
-        &["Run"],
-        &["run", ""],
-        &["run", "run"],
-        &["run", "journal.db"],
-        &["run", "help"],
-        &["run", "-"],
-        &["--", "run"],
-        &["runs"],
-        &["dryrun", "d", "k:INT:KEY"],
-        &["dryrun", "DU", "k:INT:KEY"],
-        &[],
-        &[""],
-        &["dryrun"],
-        &["dryrun", "A"],
-        &["A", "k:INT:KEY"],
-        &["dryrun", "k:INT:KEY"],
-        &["Dryrun", "A", "k:INT:KEY"],
-        &["dryrun ", "A", "k:INT:KEY"],
-        &["dry", "A", "k:INT:KEY"],
-        &["", "A", "k:INT:KEY"],
-        &["dryrun", "", "k:INT:KEY"],
-        &["", "dryrun", "A", "k:INT:KEY"],
-        &["dryrun", "a", "k:INT:KEY"],
-        &["dryrun", "AA", "k:INT:KEY"],
-        &["dryrun", "B", "k:INT:KEY"],
-        &["-v", "dryrun", "A", "k:INT:KEY"],
-        &["-dryrun", "A", "k:INT:KEY"],
-        &["dryrun", "-A", "k:INT:KEY"],
-        &["dryrun", "A", "-k:INT:KEY"],
-        &["dryrun", "A", "k:INT:KEY", "-"],
-        &["--"],
-        &["--", "dryrun", "A", "k:INT:KEY"],
-        &["dryrun", "--", "A", "k:INT:KEY"],
-        &["dryrun", "A", "--", "k:INT:KEY"],
-        &["dryrun", "A", "k:INT:KEY", "--"],
-        &["help"],
-        &["help", "A", "k:INT:KEY"],
-        &["dryrun", "A", "k:INT:KEY", "help"],
-    ];
-    for words in table {
+    for words in others() {
         let got = told(rt.alloc(), words);
         assert!(rt; got.is_err_and(|error| error == FormError::Usage));
     }

@@ -261,19 +261,22 @@ impl Plain {
 const MIXED: usize = 2000;
 
 // Commands that a number mixes, and the texts of the plain list's replies.
-pub fn mixed(alloc: Global, seed: u64) -> Result<Vec<(Ask, String)>, NoMemory> {
+pub fn mixed(alloc: Global, seed: u64) -> Result<(Vec<Ask>, Vec<String>), NoMemory> {
     let mut plain = Plain::new(alloc);
-    let mut table = Vec::new(alloc);
-    table.push((Ask::Db("d"), format!(in alloc; "Done")?))?;
-    table.push((Ask::Table("d", "t"), format!(in alloc; "Done")?))?;
+    let mut asks = Vec::new(alloc);
+    let mut texts = Vec::new(alloc);
+    asks.push(Ask::Db("d"))?;
+    texts.push(format!(in alloc; "Done")?)?;
+    asks.push(Ask::Table("d", "t"))?;
+    texts.push(format!(in alloc; "Done")?)?;
     let mut x = seed;
     for _ in 0..MIXED {
         x = x
             .wrapping_mul(6364136223846793005)
             .wrapping_add(1442695040888963407);
         let ask = ask_of(x >> 33, plain.loads());
-        let told = plain.answer(ask)?;
-        table.push((ask, told.text(alloc)?))?;
+        asks.push(ask)?;
+        texts.push(plain.answer(ask)?.text(alloc)?)?;
     }
-    Ok(table)
+    Ok((asks, texts))
 }
