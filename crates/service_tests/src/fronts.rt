@@ -73,7 +73,19 @@ const ABORTS: &[(Ask, &str)] = &[
     (Ask::Abort("auto_3"), "Aborted 3"),
 ];
 
-// The replies to commands, one after another, as texts.
+// The reply to a command, as a text.
+fn answered<L: Ledger>(
+    alloc: Global,
+    front: &mut Front,
+    steps: &mut Steps<L>,
+    ask: Ask,
+) -> Result<String, NoMemory> {
+    let command = command(alloc, ask)?;
+    let reply = front.step(command, steps);
+    text(alloc, &reply, steps)
+}
+
+// The replies to commands, one after another.
 fn replies<L: Ledger>(alloc: Global, asks: &[Ask], blank: Blank) -> Result<Vec<String>, NoMemory>
     requires name { blank.name ≡ L.name }
     requires parts { blank.parts ≡ L.parts }
@@ -83,9 +95,7 @@ fn replies<L: Ledger>(alloc: Global, asks: &[Ask], blank: Blank) -> Result<Vec<S
     let mut steps: Steps<L> = Steps::new(blank);
     let mut texts = Vec::new(alloc);
     for ask in asks {
-        let command = command(alloc, *ask)?;
-        let reply = front.step(command, &mut steps);
-        texts.push(text(alloc, &reply, &mut steps)?)?;
+        texts.push(answered(alloc, &mut front, &mut steps, *ask)?)?;
     }
     Ok(texts)
 }
