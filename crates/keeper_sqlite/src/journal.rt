@@ -69,7 +69,7 @@ fn seq_of(place: u64) -> Option<i64> {
     i64::try_from(place).ok()?.checked_add(1)
 }
 
-// In one transaction: a crash leaves the old records or this one. Where a statement is refused it is rolled back.
+// In one transaction, so that nobody meets a journal without records. Where a statement is refused, what is dropped rolls it back.
 fn replace_all<S: Alter>(connection: &mut Connection<S>, bytes: &[u8]) -> Result<(), Error> {
     if !connection.is_autocommit() {
         return Err(LEFT_OPEN);
