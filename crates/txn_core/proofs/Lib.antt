@@ -1,0 +1,9 @@
+pub mod Views
+pub mod Puts
+pub mod Halves
+pub mod Queued
+pub mod Due
+pub mod Labels
+pub mod Indexed
+pub mod Room
+pub mod Begins

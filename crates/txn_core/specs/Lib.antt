@@ -1,0 +1,4 @@
+pub mod Book
+pub mod Queue
+pub mod Refusals
+pub mod Seen
