@@ -1,10 +1,10 @@
 -- Each change keeps what a book keeps beside its entries.
-use Rattle.std.proofs.Common.{◌≡◌, ℕ, Bool, true, false, cond, ◌&&◌, List, [], ◌∷◌, map, filter, reverse, Option, Some, None, find, nat_eq, refl, sym, ◌∙◌, ap, ap₂, subst}
+use Rattle.std.proofs.Common.{◌≡◌, ℕ, Bool, true, false, cond, ◌&&◌, List, [], ◌∷◌, map, filter, Option, Some, None, nat_eq, refl, sym, ◌∙◌, ap, ap₂, subst}
 use Rattle.std.specs.Option.{option_map, unwrap_or}
 use Rattle.std.specs.Str.{bytes_eq}
 use Rattle.std.specs.List.{last_or}
 use Rattle.std.specs.List.Sorted.{IsStrictlySortedBy}
-use Rattle.std.specs.Map.{keys_of, lookup, remove_entry, set_value}
+use Rattle.std.specs.Map.{keys_of, lookup, remove_entry}
 use Rattle.std.specs.Set.{remove_key}
 use Rattle.std.specs.BTreeMap.{insert_entry, is_at}
 use Rattle.std.specs.BTreeSet.{BTreeSet, insert_key}
@@ -17,10 +17,10 @@ use Rattle.label_book.specs.declared.binding.Binding.{Binding}
 use Rattle.label_book.specs.declared.book.Held.{Held}
 use Rattle.label_book.specs.declared.label_key.LabelKey.{LabelKey}
 use Rattle.label_book.specs.Labels.{holds, last_of, state_of, is_bound, finished, AreAscending}
-use Rattle.label_book.specs.Index.{binding_of, numbers_of, unless_empty, kept_at, numbers_at, HasAt, HasSame, IsIndexed}
+use Rattle.label_book.specs.Index.{numbers_of, unless_empty, kept_at, numbers_at, HasAt, HasSame, IsIndexed}
 use Rattle.label_book.proofs.Kept.{both_equal}
 use Rattle.label_book.proofs.Lasts.{find_reverse, last_map}
-use Rattle.label_book.proofs.Entries.{bindings_of, passing, ascending_from, passing_put, passing_taken, found_last, held_of}
+use Rattle.label_book.proofs.Entries.{bindings_of, ascending_from, passing_put, passing_taken, found_last}
 
 pub numbers_listed : (ns : List ℕ) → unwrap_or (unless_empty ns) [] ≡ ns
 numbers_listed [] = refl

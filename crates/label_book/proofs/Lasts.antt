@@ -1,6 +1,6 @@
 -- The last item of a list, and of what a test keeps of it.
-use Rattle.std.proofs.Common.{◌≡◌, ℕ, ◌<◌, ◌-◌, zero, suc, Bool, true, false, cond, List, [], ◌∷◌, ◌++◌, map, reverse, length, Option, Some, None, find, filter, slice_get, refl, sym, ◌∙◌, ap, subst, arith, IsSome, IfSome, ◌↔◌}
-use Rattle.std.specs.List.{AllByRecursion, last_or}
+use Rattle.std.proofs.Common.{◌≡◌, ◌<◌, ◌-◌, Bool, true, false, cond, List, [], ◌∷◌, ◌++◌, map, reverse, length, Option, Some, None, find, filter, slice_get, refl, sym, ◌∙◌, ap, arith, IsSome, IfSome, ◌↔◌}
+use Rattle.std.specs.List.{last_or}
 use Rattle.std.specs.Option.{option_map}
 use Rattle.std.proofs.lemmas.List.{reverse-append}
 

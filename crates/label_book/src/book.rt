@@ -71,6 +71,7 @@ impl LabelBook {
     }
 
     /// Binds a transaction that begins to its label. Condition: no label is bound to it.
+    #[tactic(auto, using(crate::proofs::Entries::put_last))]
     pub fn bind(&mut self, db: &Name, label: &Name, txn: u64) -> Result<(), BindError>
         requires { is_bound txn self.old ≡ false }
         ensures ok { OnOk result (self.new ≡ put_binding (bound db.now label.now txn) self.old) }
@@ -81,7 +82,7 @@ impl LabelBook {
     {
         match self.state(db, label) {
             Some((_, TxnState::Aborted)) | None => Ok(self.add(db, label, txn)?),
-            Some((txn, state)) => Err(BindError::Used { txn, state }),
+            Some((holder, state)) => Err(BindError::Used { txn: holder, state }),
         }
     }
 

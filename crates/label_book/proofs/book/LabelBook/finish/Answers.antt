@@ -1,4 +1,4 @@
-use Rattle.std.proofs.Common.{map, rules, sym, ◌∙◌, ap, subst}
+use Rattle.std.proofs.Common.{map, sym, ◌∙◌, ap, subst}
 use Rattle.label_book.specs.declared.book.LabelBook.TheInside.{Inside}
 use Rattle.label_book.specs.Labels.{is_bound, finished}
 use Rattle.label_book.specs.Index.{IsIndexed}

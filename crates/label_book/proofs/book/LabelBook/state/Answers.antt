@@ -1,4 +1,4 @@
-use Rattle.std.proofs.Common.{rules, sym, ◌∙◌, ap}
+use Rattle.std.proofs.Common.{sym, ◌∙◌, ap}
 use Rattle.std.specs.Option.{option_map}
 use Rattle.label_book.specs.declared.book.Held.{Held}
 use Rattle.label_book.specs.Labels.{last_of, state_of}
