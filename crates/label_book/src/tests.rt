@@ -101,6 +101,7 @@ fn between_others(book: &mut LabelBook, d: &Name, a: &Name) -> bool
     let without_first = has(book, d, a, Some((9, TxnState::Aborted)));
     book.clean(9);
     let without_last = has(book, d, a, Some((7, TxnState::Prepare)));
+    book.vouch();
     all && without_first && without_last
 }
 
