@@ -1,0 +1,4 @@
+pub mod Lasts
+pub mod Entries
+pub mod Kept
+pub mod Indexed
