@@ -1,12 +1,11 @@
 -- What a book of labels says of one that begins.
-use Rattle.std.proofs.Common.{◌≡◌, ℕ, Bool, true, false, cond, not, Option, Some, None, refl, sym, ◌∙◌, ap, inl, inr}
+use Rattle.std.proofs.Common.{◌≡◌, ℕ, false, Option, Some, None, refl, ◌∙◌, ap, inl, inr}
 use Rattle.std.specs.Option.{option_map}
-use Rattle.labels.specs.declared.binding.BindError.{BindError}
-use Rattle.labels.specs.declared.binding.BindError.TheVariants as binding
+use Rattle.label_book.specs.declared.binding.BindError.{BindError}
+use Rattle.label_book.specs.declared.binding.BindError.TheVariants as binding
 use Rattle.labels.specs.declared.txn_state.TxnState.{TxnState}
 use Rattle.labels.specs.declared.txn_state.TxnState.TheVariants as state
-use Rattle.labels.specs.Labels.{IsFree, WasRefused}
-use Rattle.schema_models.specs.Faults.{refuse_if}
+use Rattle.label_book.specs.Labels.{IsFree, WasRefused}
 use Rattle.front_defs.specs.declared.txn.Txn.{Txn}
 use Rattle.front_defs.specs.Transactions.{is_aborted, is_committed}
 use Rattle.txn_core.specs.declared.error.TxnError.TheVariants as error

@@ -6,9 +6,9 @@ use Rattle.std.specs.Prelude.{count_by, nat_lt, sum_by}
 use Rattle.std.specs.List.{list_any}
 use Rattle.std.specs.Option.{option_copied, option_map}
 use Rattle.labels.specs.declared.txn_state.TxnState.TheVariants as state
-use Rattle.txn_core.specs.Book.{BookView, ended, published, published_as, txns_in}
+use Rattle.txn_core.specs.Book.{BookView, ended, published, published_as}
 use Rattle.front_defs.specs.declared.txn.Txn.{Txn}
-use Rattle.front_defs.specs.Transactions.{ahead_of, due, has_lower, is_committed, place_of, txn_at}
+use Rattle.front_defs.specs.Transactions.{ahead_of, due, has_lower, is_committed, place_of}
 use Rattle.front_laws.specs.Tidy.{Each}
 use Rattle.front_laws.proofs.Lists.{each_both, each_found, each_imp}
 use Rattle.txn_core.specs.declared.info.TxnInfo.{TxnInfo}

@@ -1,5 +1,5 @@
 -- What halving a list with ascending numbers finds is the first of its number, and the only one.
-use Rattle.std.proofs.Common.{◌≡◌, ℕ, zero, suc, ◌+◌, ◌≤◌, ◌<◌, Bool, true, false, cond, ◌&&◌, List, [], ◌∷◌, length, get_or, Option, Some, None, Result, Ok, Err, map, find, refl, sym, ◌∙◌, ap, arith, position, nat_eq}
+use Rattle.std.proofs.Common.{◌≡◌, ℕ, zero, suc, ◌+◌, ◌≤◌, ◌<◌, Bool, true, false, cond, List, [], ◌∷◌, length, get_or, Option, Some, None, Result, Ok, Err, find, refl, sym, ◌∙◌, ap, arith, position, nat_eq}
 use Rattle.std.proofs.lemmas.Bool.Decides.{nat_tests}
 use Rattle.std.proofs.lemmas.Cmp.{ranked}
 use Rattle.std.proofs.lemmas.Iterator.Adapters.{position_from-zero}
@@ -8,12 +8,8 @@ use Rattle.std.specs.Prelude.{nat_lt, MatchResult}
 use Rattle.std.specs.List.{position_from}
 use Rattle.std.specs.List.Sorted.{IsBinarySearchResult, IsSearchInRange}
 use Rattle.std.specs.Ordering.{nat_cmp, ordering_index}
-use Rattle.front_defs.specs.Names.{same}
-use Rattle.front_defs.specs.declared.txn.Txn.{Txn}
 use Rattle.front_laws.specs.Tidy.{Each}
-use Rattle.front_laws.proofs.Lists.{each_imp, eq_is}
-use Rattle.txn_core.specs.declared.info.TxnInfo.{TxnInfo}
-use Rattle.txn_core.specs.Seen.{Ascending, AscendsBy, seen}
+use Rattle.txn_core.specs.Seen.{AscendsBy}
 
 each_index : {X : Type 0} (P : X → Type 0) (xs : List X) (i : ℕ) (d : X) → i < length xs → Each P xs → P (get_or xs i d)
 each_index P [] i d lt e = absurd (omega arith)
@@ -23,7 +19,7 @@ each_index P (x ∷ xs) (suc i) d lt e = each_index P xs i d (omega arith) e.1
 higher : (a b x : ℕ) → a ≤ b → ordering_index (nat_cmp a x) ≤ ordering_index (nat_cmp b x)
 higher a b x le = grind (arith, nat_tests)
 
-rises : {X : Type 0} (key : X → ℕ) (xs : List X) (i j : ℕ) (d : X) → AscendsBy key xs → i ≤ j → j < length xs → key (get_or xs i d) ≤ key (get_or xs j d)
+pub rises : {X : Type 0} (key : X → ℕ) (xs : List X) (i j : ℕ) (d : X) → AscendsBy key xs → i ≤ j → j < length xs → key (get_or xs i d) ≤ key (get_or xs j d)
 rises key [] i j d a le lt = absurd (omega arith)
 rises key (x ∷ xs) zero zero d a le lt = omega arith
 rises key (x ∷ xs) zero (suc j) d a le lt = let h = each_index (λ v. key x < key v) xs j d (omega arith) a.0 in omega (arith, h)

@@ -1,9 +1,9 @@
 -- The indexes after a transaction began.
 use Rattle.std.proofs.Common.{◌≡◌, ℕ, ◌+◌, ◌≤◌, List, [], ◌∷◌, ◌++◌, length, map, refl, sym, ◌∙◌, ap, arith, false}
 use Rattle.std.proofs.lemmas.List.{map-append}
-use Rattle.labels.specs.declared.binding.Binding.{Binding}
+use Rattle.label_book.specs.declared.binding.Binding.{Binding}
 use Rattle.labels.specs.declared.txn_state.TxnState.TheVariants as state
-use Rattle.labels.specs.Labels.{bound}
+use Rattle.label_book.specs.Labels.{bound}
 use Rattle.front_defs.specs.Transactions.{is_committed}
 use Rattle.txn_core.specs.declared.info.TxnInfo.{TxnInfo}
 use Rattle.txn_core.specs.declared.waiter.Waiter.{Waiter}

@@ -1,13 +1,14 @@
 -- The book of labels and the kept transactions.
-use Rattle.std.proofs.Common.{◌≡◌, ℕ, Bool, true, false, cond, ◌||◌, List, [], ◌∷◌, find, map, Option, Some, None, refl, sym, ◌∙◌, ap, arith, nat_eq}
+use Rattle.std.proofs.Common.{◌≡◌, ℕ, ◌<◌, Bool, true, false, cond, ◌||◌, List, [], ◌∷◌, find, map, Option, Some, None, refl, sym, ◌∙◌, ap, arith, nat_eq}
 use Rattle.std.proofs.lemmas.Bool.Decides.{nat_tests}
 use Rattle.std.specs.Prelude.{reverse}
 use Rattle.std.proofs.lemmas.Grind.{reverse_onto}
+use Rattle.std.specs.List.{AllByRecursion}
 use Rattle.std.specs.Option.{option_map}
-use Rattle.labels.specs.declared.binding.Binding.{Binding}
+use Rattle.label_book.specs.declared.binding.Binding.{Binding}
 use Rattle.labels.specs.declared.txn_state.TxnState.{TxnState}
-use Rattle.labels.specs.Labels as labels
-use Rattle.labels.specs.Labels.{is_bound, state_of}
+use Rattle.label_book.specs.Labels as labels
+use Rattle.label_book.specs.Labels.{is_bound, state_of}
 use Rattle.front_defs.specs.declared.txn.Txn.{Txn}
 use Rattle.front_defs.specs.Transactions.{holds, is_committed, label_of, txn_at}
 use Rattle.front_laws.specs.Tidy.{Each}
@@ -22,6 +23,11 @@ use Rattle.txn_core.proofs.Views.{find_map, reverse_map}
 pub unbound : (n : ℕ) (ks : List TxnInfo) → Below n ks → is_bound n (map binding ks) ≡ false
 unbound n [] e = refl
 unbound n (k ∷ ks) e = let h = e.0 in let off : nat_eq k.id n ≡ false = grind (arith, nat_tests) in rw off (unbound n ks e.1)
+
+-- all that is bound has a lower one
+pub bound_below : (n : ℕ) (ks : List TxnInfo) → Below n ks → AllByRecursion (λ (b : Binding). b.txn < n) (map binding ks)
+bound_below n [] e = tt
+bound_below n (k ∷ ks) e = (e.0, bound_below n ks e.1)
 
 bound_step : (b r : Bool) (k : TxnInfo) (o : Option TxnInfo) → option_map (λ (k : TxnInfo). is_committed k.state) (cond b (Some k) o) ≡ Some false → (option_map (λ (k : TxnInfo). is_committed k.state) o ≡ Some false → r ≡ true) → (b || r) ≡ true
 bound_step true true k o h f = refl

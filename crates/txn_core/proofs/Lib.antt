@@ -7,3 +7,12 @@ pub mod Labels
 pub mod Indexed
 pub mod Room
 pub mod Begins
+pub mod Mapped
+pub mod Relabelled
+pub mod Forgotten
+pub mod Parted
+pub mod Restored
+pub mod Swept
+pub mod Opened
+pub mod Unbegun
+pub mod Inserted

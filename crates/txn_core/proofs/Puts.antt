@@ -10,7 +10,7 @@ use Rattle.txn_core.specs.declared.info.TxnInfo.{TxnInfo}
 use Rattle.txn_core.specs.Seen.{Ascending, Below}
 use Rattle.txn_core.specs.Book.{at_id}
 use Rattle.txn_core.specs.Queue.{binding}
-use Rattle.labels.specs.Labels.{finished}
+use Rattle.label_book.specs.Labels.{finished}
 use Rattle.labels.specs.declared.txn_state.TxnState.{TxnState}
 
 -- the first place of a number
@@ -30,7 +30,7 @@ each_index P (x ∷ xs) (suc i) d lt e = each_index P xs i d (omega arith) e.1
 pub record Spares {Y : Type 0} (id : ℕ) (g : TxnInfo → Y) (f : Y → Y) : Type 0 where
   pub other : (k : TxnInfo) → nat_eq k.id id ≡ false → f (g k) ≡ g k
 
-none_touched : {Y : Type 0} (id : ℕ) (g : TxnInfo → Y) (f : Y → Y) → Spares id g f → (ks : List TxnInfo) → Each (λ (k : TxnInfo). nat_eq k.id id ≡ false) ks → map f (map g ks) ≡ map g ks
+pub none_touched : {Y : Type 0} (id : ℕ) (g : TxnInfo → Y) (f : Y → Y) → Spares id g f → (ks : List TxnInfo) → Each (λ (k : TxnInfo). nat_eq k.id id ≡ false) ks → map f (map g ks) ≡ map g ks
 none_touched id g f s [] e = refl
 none_touched id g f s (k ∷ ks) e = rw (s.other k e.0) (ap (λ ys. g k ∷ ys) (none_touched id g f s ks e.1))
 
@@ -68,7 +68,7 @@ misses id g f s ks e = sym (none_touched id g f s ks (missed id ks e))
 pub binding_spares : (id : ℕ) (s : TxnState) → Spares id binding (finished id s)
 binding_spares id s = record { other = λ k e. ap (λ (b : Bool). cond b (record (binding k) { state = s }) (binding k)) e }
 
-hit_is : {Y : Type 0} (b : Bool) (x y : Y) → b ≡ true → cond b x y ≡ x
+pub hit_is : {Y : Type 0} (b : Bool) (x y : Y) → b ≡ true → cond b x y ≡ x
 hit_is true x y e = refl
 hit_is false x y e = absurd (cc)
 
@@ -105,7 +105,7 @@ each_set P [] i k h e = tt
 each_set P (u ∷ us) zero k h e = (h, e.1)
 each_set P (u ∷ us) (suc i) k h e = (e.0, each_set P us i k h e.1)
 
-ascending_set : (ks : List TxnInfo) (i : ℕ) (d k : TxnInfo) → i < length ks → k.id ≡ (get_or ks i d).id → Ascending ks → Ascending (slice_set ks i k)
+pub ascending_set : (ks : List TxnInfo) (i : ℕ) (d k : TxnInfo) → i < length ks → k.id ≡ (get_or ks i d).id → Ascending ks → Ascending (slice_set ks i k)
 ascending_set [] i d k lt e a = tt
 ascending_set (u ∷ us) zero d k lt e a = (each_imp (λ (v : TxnInfo). u.id < v.id) (λ (v : TxnInfo). k.id < v.id) (λ v h. omega (arith, e, h)) us a.0, a.1)
 ascending_set (u ∷ us) (suc i) d k lt e a =

@@ -29,7 +29,7 @@ uncommitted_by false n e = refl
 
 -- ---- one more transaction
 
-slot_snoc_step : (b : Bool) (here : Option ℕ) (later more : Option ℕ) (p : ℕ) → cond b here later ≡ Some p → (later ≡ Some p → more ≡ Some p) → cond b here more ≡ Some p
+pub slot_snoc_step : (b : Bool) (here : Option ℕ) (later more : Option ℕ) (p : ℕ) → cond b here later ≡ Some p → (later ≡ Some p → more ≡ Some p) → cond b here more ≡ Some p
 slot_snoc_step true here later more p e f = e
 slot_snoc_step false here later more p e f = f e
 

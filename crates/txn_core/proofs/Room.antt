@@ -1,6 +1,6 @@
 -- There is room in the queue for each load that is not committed.
-use Rattle.std.proofs.Common.{◌≡◌, ℕ, suc, ◌+◌, ◌≤◌, ◌<◌, Bool, true, false, cond, List, [], ◌∷◌, length, find, Option, Some, None, ap, ◌∙◌, arith, nat_eq}
-use Rattle.std.specs.Prelude.{count_by, sum_by}
+use Rattle.std.proofs.Common.{◌≡◌, ℕ, suc, ◌+◌, ◌≤◌, ◌<◌, Bool, true, false, cond, List, [], ◌∷◌, length, find, Option, Some, ap, ◌∙◌, arith, nat_eq}
+use Rattle.std.specs.Prelude.{count_by}
 use Rattle.std.specs.Option.{option_map}
 use Rattle.front_defs.specs.Transactions.{is_committed}
 use Rattle.txn_core.specs.declared.info.TxnInfo.{TxnInfo}
@@ -15,7 +15,7 @@ at_most_one false = omega arith
 count_cons : (k : TxnInfo) (ks : List TxnInfo) → count_by (λ (x : TxnInfo). is_committed x.state) (k ∷ ks) ≡ cond (is_committed k.state) 1 0 + count_by (λ (x : TxnInfo). is_committed x.state) ks
 count_cons k ks = sum_cons (λ (x : TxnInfo). cond (is_committed x.state) 1 0) k ks
 
-count_within : (ks : List TxnInfo) → count_by (λ (x : TxnInfo). is_committed x.state) ks ≤ length ks
+pub count_within : (ks : List TxnInfo) → count_by (λ (x : TxnInfo). is_committed x.state) ks ≤ length ks
 count_within [] = omega arith
 count_within (k ∷ ks) = let s = count_cons k ks in let l = at_most_one (is_committed k.state) in let h = count_within ks in omega (arith, s, l, h)
 

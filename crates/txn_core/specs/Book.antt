@@ -1,12 +1,14 @@
 -- A book of transactions, and what each call makes of it.
-use Rattle.std.specs.Prelude.{ℕ, ◌+◌, Bool, true, false, cond, not, List, [], ◌∷◌, ◌++◌, Option, Some, None, map, filter, nat_eq}
+use Rattle.std.specs.Prelude.{◌≡◌, ℕ, ◌+◌, ◌-◌, Bool, true, false, cond, not, ◌&&◌, ◌||◌, List, [], ◌∷◌, ◌++◌, Option, Some, None, map, filter, find, length, take, nat_eq, nat_lt, unwrap_or}
+use Rattle.std.specs.Option.{option_map}
 use Rattle.labels.specs.declared.txn_state.TxnState.{TxnState}
 use Rattle.labels.specs.declared.txn_state.TxnState.TheVariants as state
 use Rattle.front_defs.specs.Answer.{label_for}
 use Rattle.front_defs.specs.declared.txn.Txn.{Txn}
+use Rattle.front_defs.specs.Moves.{is_open}
 use Rattle.front_defs.specs.Transactions.{dropped_since, dropped_state, due, expires_by, over_by}
-use Rattle.labels.specs.declared.binding.BindError.{BindError}
-use Rattle.labels.specs.declared.binding.BindError.TheVariants as binding
+use Rattle.label_book.specs.declared.binding.BindError.{BindError}
+use Rattle.label_book.specs.declared.binding.BindError.TheVariants as binding
 use Rattle.txn_core.specs.declared.error.TxnError.{TxnError}
 use Rattle.txn_core.specs.declared.error.TxnError.TheVariants as error
 use Rattle.txn_core.specs.declared.info.Held.{Held}
@@ -91,6 +93,10 @@ swept_as at k = cond (is_stale at k) (end_as state.Aborted at k) k
 abbrev pub swept : ℕ → BookView → BookView
 swept at b = record b { kept = map (swept_as at) (filter (λ k. not (is_old at k)) b.kept) }
 
+-- a sweep changes it, and a journal was told of it
+abbrev pub is_told_change : ℕ → TxnInfo → Bool
+is_told_change at k = k.told && (is_stale at k || is_old at k)
+
 -- Where its table goes, a transaction keeps no rows, and one that is not committed is aborted.
 abbrev pub drop_as : ℕ → TxnInfo → TxnInfo
 drop_as at k = record k { state = dropped_state k.state; since = dropped_since k.state at k.since; held = None }
@@ -100,6 +106,29 @@ dropped_in table at k = cond (nat_eq k.table table) (drop_as at k) k
 
 abbrev pub without_table : ℕ → ℕ → BookView → BookView
 without_table table at b = record b { kept = map (dropped_in table at) b.kept }
+
+-- the lowest number of one that has not ended, or the next number
+abbrev pub lowest_open : ℕ → List Txn → ℕ
+lowest_open next txns = unwrap_or (option_map (λ (t : Txn). t.id) (find (λ (t : Txn). is_open t.state) txns)) next
+
+-- this one between those of lower and those of higher numbers
+abbrev pub put_info : TxnInfo → List TxnInfo → List TxnInfo
+put_info k ks = filter (λ (u : TxnInfo). nat_lt u.id k.id) ks ++ k ∷ filter (λ (u : TxnInfo). nat_lt k.id u.id) ks
+
+abbrev pub restored : TxnInfo → BookView → BookView
+restored k b = record b { kept = put_info k b.kept }
+
+-- One has just begun: the last of all, with the number before the next one.
+pub record HasBegun (b : BookView) : Type 0 where
+  pub others : List TxnInfo
+  pub last : TxnInfo
+  pub kept : b.kept ≡ others ++ last ∷ []
+  pub number : b.next ≡ last.id + 1
+  pub begins : last.state ≡ state.Prepare
+
+-- the last one has not begun
+abbrev pub unbegun : BookView → BookView
+unbegun b = record b { kept = take (length b.kept - 1) b.kept; next = b.next - 1 }
 
 abbrev pub bind_fault : BindError → TxnError
 bind_fault (binding.Used txn s) = error.Used txn s

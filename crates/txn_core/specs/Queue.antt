@@ -1,7 +1,7 @@
 -- The committed loads that wait for their publish, by ascending places.
-use Rattle.std.specs.Prelude.{◌≡◌, ℕ, ◌≤◌, ◌<◌, false, cond, List, [], ◌∷◌, Option, Some, None, length, nat_eq, count_by, find, map}
+use Rattle.std.specs.Prelude.{◌≡◌, ℕ, ◌≤◌, ◌<◌, false, cond, not, List, [], ◌∷◌, ◌++◌, Option, Some, None, filter, length, nat_eq, nat_lt, count_by, find, map}
 use Rattle.std.specs.Option.{option_map}
-use Rattle.labels.specs.declared.binding.Binding.{Binding}
+use Rattle.label_book.specs.declared.binding.Binding.{Binding}
 use Rattle.front_defs.specs.Transactions.{is_committed, place_of}
 use Rattle.front_laws.specs.Tidy.{Each, Pairs}
 use Rattle.txn_core.specs.declared.info.TxnInfo.{TxnInfo}
@@ -43,6 +43,11 @@ IsOpen id ks = option_map (λ (k : TxnInfo). is_committed k.state) (find (λ (k 
 abbrev pub waiters_by : Option ℕ → ℕ → List Waiter
 waiters_by None id = []
 waiters_by (Some p) id = record { place = p; txn = id } ∷ []
+
+-- one that is restored at this place, between those of lower and those of higher places
+abbrev pub put_slot : Option ℕ → ℕ → List Waiter → List Waiter
+put_slot None id q = q
+put_slot (Some p) id q = filter (λ (w : Waiter). nat_lt w.place p) q ++ record { place = p; txn = id } ∷ filter (λ (w : Waiter). not (nat_lt w.place p)) q
 
 -- a label and the transaction that holds it
 abbrev pub binding : TxnInfo → Binding

@@ -1,9 +1,11 @@
 -- Why a call of a book is refused: the refusals of each in their order.
-use Rattle.std.specs.Prelude.{◌≡◌, ℕ, ◌+◌, Bool, not, ◌&&◌, List, [], ◌∷◌, Option, Some, None, nat_le, ◌⊎◌}
-use Rattle.labels.specs.declared.txn_state.TxnState.{TxnState}
+use Rattle.std.specs.Prelude.{◌≡◌, ℕ, ◌+◌, ◌<◌, ◌≤◌, not, ◌&&◌, ◌||◌, List, [], ◌∷◌, Option, Some, None, IfSome, is_some, nat_le, ◌⊎◌}
 use Rattle.schema_models.specs.Faults.{first_of, refuse_if}
 use Rattle.front_defs.specs.declared.txn.Txn.{Txn}
-use Rattle.front_defs.specs.Transactions.{is_aborted, is_precommitted, is_prepare}
+use Rattle.front_defs.specs.Transactions.{is_aborted, is_committed, is_precommitted, is_prepare, is_visible}
+use Rattle.front_laws.specs.Tidy.{Each}
+use Rattle.txn_core.specs.declared.info.TxnInfo.{TxnInfo}
+use Rattle.txn_core.specs.Book.{BookView}
 use Rattle.txn_core.specs.declared.error.TxnError.{TxnError}
 use Rattle.txn_core.specs.declared.error.TxnError.TheVariants as error
 
@@ -36,3 +38,9 @@ abort_fault t = first_of (abort_faults t)
 -- why none begins: the label is used, or memory was short
 abbrev pub RefusesBegin : Option Txn → TxnError → Type 0
 RefusesBegin held e = (e ≡ error.NoMemory) ⊎ (used_by held ≡ Some e)
+
+-- It has a place exactly where it was committed, one that was drawn and that no other one has.
+pub record HasOwnPlace (k : TxnInfo) (b : BookView) : Type 0 where
+  pub has : is_some k.place ≡ (is_committed k.state || is_visible k.state)
+  pub drawn : IfSome k.place (λ p. (0 < p) × (p ≤ b.places))
+  pub own : IfSome k.place (λ p. Each (λ (u : TxnInfo). u.place ≡ Some p → ⊥) b.kept)

@@ -1,5 +1,5 @@
 -- What contracts see of a transaction that is kept, and of the rows that it holds.
-use Rattle.std.specs.Prelude.{◌≡◌, ℕ, map, ◌<◌, List, [], ◌∷◌, Option, Some, None}
+use Rattle.std.specs.Prelude.{ℕ, map, ◌<◌, List, [], Option, Some, None}
 use Rattle.dl_values.specs.declared.cell.Cell.{Cell}
 use Rattle.shadow_writes.specs.declared.built.TabletRows.{TabletRows}
 use Rattle.front_defs.specs.declared.txn.Txn.{Txn}

@@ -12,6 +12,11 @@ ghost use Rattle.txn_core.specs.Queue.{waiters_by};
 ghost use Rattle.txn_core.specs.Refusals.{RefusesBegin, abort_fault, commit_fault, submit_fault, used_by};
 ghost use Rattle.txn_core.specs.Seen.{Ascending, Below, seen};
 
+mod dropping;
+mod opening;
+mod sweeping;
+mod undoing;
+
 use crate::error::TxnError;
 use crate::info::{Held, TxnInfo};
 use crate::labels_of::label_or_auto;
@@ -19,7 +24,8 @@ use crate::start::TxnStart;
 use crate::waiter::Waiter;
 use crate::{changes, finds};
 use dl_values::{Name, NoMemory};
-use labels::{BindError, LabelBook, TxnState};
+use label_book::{BindError, LabelBook};
+use labels::TxnState;
 use std::alloc::Global;
 use std::collections::VecDeque;
 use std::marker::Model;

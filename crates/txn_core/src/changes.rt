@@ -1,6 +1,6 @@
 // Changing one of the kept transactions, found by its number.
 ghost use Rattle.std.specs.Prelude.{◌≡◌, ◌+◌, ◌++◌, ◌∷◌, ℕ, List, IfSome, None, Some, [], false, length, map};
-ghost use Rattle.labels.specs.Labels.{finished};
+ghost use Rattle.label_book.specs.Labels.{finished};
 ghost use Rattle.labels.specs.declared.txn_state.TxnState.TheVariants as states;
 ghost use Rattle.front_defs.specs.Transactions.{is_committed};
 ghost use Rattle.txn_core.specs.declared.waiter.Waiter.{Waiter};
@@ -15,7 +15,7 @@ use labels::TxnState;
 
 impl TxnInfo {
     // Ends it. It keeps no rows.
-    fn end(&mut self, state: TxnState, at: u64)
+    pub fn end(&mut self, state: TxnState, at: u64)
         ensures { self.new ≡ end_as state at self.old }
     {
         self.state = state;

@@ -1,6 +1,7 @@
-// Finding transactions by their number, without going through all of them: the numbers ascend.
+// Finding transactions: by their number without going through all of them, since the numbers ascend.
 ghost use Rattle.std.specs.Prelude.{◌≡◌, find, nat_eq, position};
 ghost use Rattle.std.specs.Option.{option_copied};
+ghost use Rattle.front_defs.specs.Moves.{is_open};
 ghost use Rattle.txn_core.specs.Seen.{Ascending};
 
 use crate::info::TxnInfo;
@@ -25,4 +26,11 @@ pub fn kept_at(kept: &[TxnInfo], id: u64) -> Option<&TxnInfo>
         None => None,
         Some(i) => Some(&kept[i]),
     }
+}
+
+// The first that has not ended.
+pub fn first_open(kept: &[TxnInfo]) -> Option<&TxnInfo>
+    ensures { option_copied result ≡ find (λ k. is_open k.state) kept.now }
+{
+    kept.iter().find(|info| info.is_open())
 }

@@ -1,12 +1,10 @@
-use Rattle.std.proofs.Common.{◌∙◌, ap, ◌≡◌, rules, position, nat_eq, Some, None, refl, [], ◌∷◌}
-use Rattle.labels.specs.Labels.{finished}
-use Rattle.labels.specs.declared.txn_state.TxnState.TheVariants as state
+use Rattle.std.proofs.Common.{◌∙◌, ap, ◌≡◌, rules, position, nat_eq, Some, None}
+use Rattle.label_book.specs.Labels.{finished}
 use Rattle.front_defs.specs.Transactions.{is_committed}
 use Rattle.txn_core.specs.declared.info.TxnInfo.{TxnInfo}
-use Rattle.txn_core.specs.Book as book
 use Rattle.txn_core.specs.Book.{end_as}
 use Rattle.txn_core.specs.Queue.{binding}
-use Rattle.txn_core.proofs.Queued.{is_put, no_first, open_is_kept, queue_keeps, queue_pops, queue_takes, same_number}
+use Rattle.txn_core.proofs.Queued.{is_put, no_first, queue_keeps, queue_pops, same_number}
 use Rattle.txn_core.proofs.Puts.{binding_spares, labels_put, missed, misses, none_changed, one_changed, ascending_put, below_put, length_put}
 use Rattle.txn_core.proofs.changes.end.Goals as goal
 

@@ -1,21 +1,12 @@
-use Rattle.std.proofs.Common.{◌≡◌, ◌∙◌, ◌+◌, ◌++◌, ◌∷◌, ◌≤◌, [], length, IfSome, Some, None, ap, false, find, map, nat_eq, refl, rules, sym}
-use Rattle.std.specs.Option.{option_copied, option_map}
-use Rattle.labels.specs.Labels.{finished}
-use Rattle.labels.specs.declared.txn_state.TxnState.TheVariants as state
-use Rattle.front_defs.specs.declared.txn.Txn.{Txn}
-use Rattle.front_defs.specs.Transactions.{is_committed, txn_at}
-use Rattle.txn_core.specs.declared.info.TxnInfo.{TxnInfo}
-use Rattle.txn_core.specs.Book as books
-use Rattle.txn_core.specs.Queue.{waiters_by}
+use Rattle.std.proofs.Common.{◌≡◌, ◌∙◌, ◌+◌, ◌++◌, ◌∷◌, ◌≤◌, [], length, ap, map, rules}
 use Rattle.txn_core.specs.Seen.{seen}
-use Rattle.txn_core.proofs.Labels.{open_bound, open_seen, slot_bound, unbound}
-use Rattle.txn_core.proofs.Queued.{open_slot}
-use Rattle.labels.specs.Labels.{bound, state_of, IsFree, WasRefused}
+use Rattle.txn_core.proofs.Labels.{unbound}
+use Rattle.label_book.specs.Labels.{bound, state_of, IsFree, WasRefused}
 use Rattle.front_defs.specs.Transactions.{label_of}
 use Rattle.std.specs.VecDeque.{deque_capacity}
 use Rattle.txn_core.proofs.Begins.{free_begin, refused_begin}
 use Rattle.txn_core.proofs.Indexed.{begins_indexed}
-use Rattle.txn_core.proofs.Labels.{state_seen}
+use Rattle.txn_core.proofs.Labels.{bound_below, state_seen}
 use Rattle.txn_core.proofs.book.TxnBook.add.Goals as goal
 
 pub bind-requires : goal.bind-requires
@@ -38,8 +29,9 @@ returns-clause-free c =
 pub invariant_of-self-2 : goal.invariant_of-self-2
 invariant_of-self-2 c =
     let e : c.push_reserved.new.self.items ≡ c.self.inside.kept.items ++ c.args.info ∷ [] = search rules in
-    let b : c.bind.new.self ≡ c.self.inside.labels ++ bound c.args.info.db c.args.info.label c.args.info.id ∷ [] = search rules in
     let same : c.args.info.id ≡ c.self.inside.next = search rules in
+    let below = rw (← same) at (bound_below c.self.inside.next c.self.inside.kept.items c.self.invariant.below) in
+    let b : c.bind.new.self ≡ c.self.inside.labels ++ bound c.args.info.db c.args.info.label c.args.info.id ∷ [] = c.in-Ok-bind.ensures.last (rw c.self.invariant.labels below) in
     let next : c.args.next ≡ c.self.inside.next + 1 = search rules in
     let more : length c.self.inside.kept.items + 1 ≤ deque_capacity c.reserve-2.new.self = search rules in
     rw (e, b, next, c.reserve-2.ensures.items) (begins_indexed c.self.inside.kept.items c.args.info c.self.inside.labels c.self.inside.queue.items (deque_capacity c.reserve-2.new.self) c.self.inside.next c.self.inside.places same c.requires.begins more (record { ascends = c.self.invariant.ascends; below = c.self.invariant.below; labels = c.self.invariant.labels; queued = c.self.invariant.queued; room = search rules }))

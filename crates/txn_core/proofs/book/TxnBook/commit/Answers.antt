@@ -1,19 +1,11 @@
-use Rattle.std.proofs.Common.{◌≡◌, ◌∙◌, ◌+◌, ◌++◌, ◌∷◌, [], IfSome, Some, None, ap, false, find, length, map, nat_eq, refl, rules, sym}
-use Rattle.std.specs.Option.{option_copied, option_map}
-use Rattle.labels.specs.Labels.{finished}
-use Rattle.labels.specs.declared.txn_state.TxnState.TheVariants as state
-use Rattle.front_defs.specs.declared.txn.Txn.{Txn}
-use Rattle.front_defs.specs.Transactions.{is_committed, txn_at}
+use Rattle.std.proofs.Common.{◌≡◌, ◌∙◌, Some, None, ap, find, nat_eq, refl, rules, sym}
+use Rattle.std.specs.Option.{option_map}
+use Rattle.front_defs.specs.Transactions.{txn_at}
 use Rattle.txn_core.specs.declared.info.TxnInfo.{TxnInfo}
-use Rattle.txn_core.specs.Book as books
 use Rattle.txn_core.specs.Book.{txns_in}
-use Rattle.txn_core.specs.Queue.{waiters_by}
-use Rattle.txn_core.specs.Refusals.{abort_fault, commit_fault, submit_fault}
+use Rattle.txn_core.specs.Refusals.{commit_fault}
 use Rattle.txn_core.specs.Seen.{seen}
-use Rattle.txn_core.proofs.Begins.{abort_opens, commit_opens, submit_opens}
-use Rattle.txn_core.proofs.Labels.{open_bound, open_seen, slot_bound, unbound}
-use Rattle.txn_core.proofs.Queued.{open_slot}
-use Rattle.txn_core.proofs.Room.{room_left}
+use Rattle.txn_core.proofs.Begins.{commit_opens}
 use Rattle.txn_core.proofs.Views.{txn_seen}
 use Rattle.txn_core.proofs.book.TxnBook.commit.Goals as goal
 

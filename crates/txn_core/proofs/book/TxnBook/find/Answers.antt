@@ -1,6 +1,6 @@
 use Rattle.std.proofs.Common.{◌≡◌, ◌∙◌, ap, find, nat_eq, rules, sym, Some, None}
 use Rattle.std.specs.Option.{option_copied, option_map}
-use Rattle.labels.specs.Labels.{state_of}
+use Rattle.label_book.specs.Labels.{state_of}
 use Rattle.txn_core.specs.declared.info.TxnInfo.{TxnInfo}
 use Rattle.txn_core.specs.Seen.{seen}
 use Rattle.txn_core.proofs.Due.{numbered}

@@ -1,16 +1,8 @@
-use Rattle.std.proofs.Common.{◌≡◌, ◌∙◌, ◌+◌, ◌++◌, ◌∷◌, [], IfSome, Some, None, ap, false, find, map, nat_eq, refl, rules, sym}
-use Rattle.std.specs.Option.{option_copied, option_map}
-use Rattle.labels.specs.Labels.{finished}
+use Rattle.std.proofs.Common.{◌≡◌, ◌∙◌, ◌∷◌, [], ap, map, refl, rules, sym}
+use Rattle.label_book.specs.Labels.{finished}
 use Rattle.labels.specs.declared.txn_state.TxnState.TheVariants as state
-use Rattle.front_defs.specs.declared.txn.Txn.{Txn}
-use Rattle.front_defs.specs.Transactions.{is_committed, txn_at}
-use Rattle.txn_core.specs.declared.info.TxnInfo.{TxnInfo}
-use Rattle.txn_core.specs.Book as books
-use Rattle.txn_core.specs.Queue.{waiters_by}
-use Rattle.txn_core.specs.Seen.{seen}
-use Rattle.txn_core.proofs.Labels.{open_bound, open_seen, slot_bound, unbound}
-use Rattle.txn_core.proofs.Queued.{open_slot}
-use Rattle.txn_core.proofs.Due.{due_number, none_due, nothing_published, published_is}
+use Rattle.txn_core.proofs.Labels.{slot_bound}
+use Rattle.txn_core.proofs.Due.{due_number, none_due, published_is}
 use Rattle.txn_core.proofs.book.TxnBook.publish.Goals as goal
 
 pub finish-requires : goal.finish-requires
