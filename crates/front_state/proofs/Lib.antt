@@ -1,0 +1,12 @@
+pub mod Views
+pub mod Changed
+pub mod Gathered
+pub mod Tablets
+pub mod OfDb
+pub mod Named
+pub mod Sets
+pub mod Changes
+pub mod Dropped
+pub mod Room
+pub mod Putting
+pub mod Ascending

@@ -1,0 +1,9 @@
+use Rattle.std.proofs.Common.{◌≡◌, ◌∙◌, ap}
+use Rattle.std.proofs.lemmas.Result.{on_ok_weaker}
+use Rattle.txn_core.specs.Book.{BookView}
+use Rattle.front_state.specs.Parts.{transactions_seen}
+use Rattle.front_state.proofs.Changes.{swept_seen}
+use Rattle.front_state.proofs.transactions.Transactions.sweep.Goals as goal
+
+pub returns-clause-ok : goal.returns-clause-ok
+returns-clause-ok c = rw (← c.self.view_is) (on_ok_weaker c.sweep.result (λ e. ap (λ (b : BookView). transactions_seen b c.self.inside.range) e ∙ swept_seen c.args.at c.self.inside.book c.self.inside.range) c.sweep.ensures.ok)
