@@ -13,11 +13,11 @@ use Rattle.front_defs.specs.Catalogue.{table_at}
 use Rattle.front_defs.specs.Indexes.{Index}
 use Rattle.front_defs.specs.Stands.{WaitingRows, waiting_for, waiting_found}
 use Rattle.front_defs.specs.Stored.{PlacedRows, indexed, sets_in, sets_of, spoils_map, target_at, waiting_by, waiting_in}
-use Rattle.front_defs.specs.Transactions.{txn_at, changed}
+use Rattle.front_defs.specs.Transactions.{txn_at, changed, committed_at}
 use Rattle.front_laws.specs.Tidy.{Each}
 use Rattle.front_laws.proofs.Lists.{each_found, eq_is}
 use Rattle.front_laws.proofs.Keeping.{made_apart}
-use Rattle.front_core.specs.Parts.{given}
+use Rattle.front_state.specs.Parts.{given}
 
 -- ---- without rows nothing waits
 none_spoils : (o : Option RowMap) (sets : List PlacedRows) → cond (spoils_map o []) [] sets ≡ sets
@@ -32,11 +32,11 @@ no_sets : (o : Option Index) (t : Table) → sets_in o t [] ≡ []
 no_sets None t = refl
 no_sets (Some x) t = none_spoils x.map (sets_of t.layout x []) ∙ ap (map (λ (w : Place). record { place = w; rows = indexed x (rows_at t.layout w []) })) (no_places t.layout (tablets_of t.layout))
 
-no_rows : (o : Option Table) (jobs : List JobInfo) (index id : ℕ) (rows : List (List Cell)) → rows ≡ [] → waiting_in o jobs index id rows ≡ []
+pub no_rows : (o : Option Table) (jobs : List JobInfo) (index id : ℕ) (rows : List (List Cell)) → rows ≡ [] → waiting_in o jobs index id rows ≡ []
 no_rows None jobs index id rows e = refl
 no_rows (Some t) jobs index id rows e = rw e (no_sets (target_at t jobs index id) t)
 
-no_set_at : (index : ℕ) → (let none : List PlacedRows = [] in get_or (none ∷ []) index none ≡ none)
+pub no_set_at : (index : ℕ) → (let none : List PlacedRows = [] in get_or (none ∷ []) index none ≡ none)
 no_set_at zero = refl
 no_set_at (suc n) = refl
 
@@ -152,3 +152,16 @@ by_used (Some u) index tables jobs m last n h =
 
 pub waiting_tabled : (n index : ℕ) (ts : List Txn) (tables : List Table) (jobs : List JobInfo) (m : Table) (last : ℕ) → m.number ≡ last + 1 → Each (λ (t : Txn). t.table ≤ last) ts → waiting_by (txn_at n ts) index (tables ++ m ∷ []) jobs ≡ waiting_by (txn_at n ts) index tables jobs
 waiting_tabled n index ts tables jobs m last new e = by_used (txn_at n ts) index tables jobs m last new (λ u f. each_found (λ (t : Txn). t.table ≤ last) (λ t. nat_eq t.id n) ts u e f)
+
+-- ---- a commit changes nothing of what waits
+committed_hit : (index place at : ℕ) (t : Txn) (a b : Option Txn) (tables : List Table) (jobs : List JobInfo) (h : Bool) → waiting_by a index tables jobs ≡ waiting_by b index tables jobs → waiting_by (cond h (Some (committed_at place at t)) a) index tables jobs ≡ waiting_by (cond h (Some t) b) index tables jobs
+committed_hit index place at t a b tables jobs true e = refl
+committed_hit index place at t a b tables jobs false e = e
+
+committed_cons : (id n index place at : ℕ) (t : Txn) (a b : Option Txn) (tables : List Table) (jobs : List JobInfo) (h : Bool) → nat_eq t.id id ≡ h → waiting_by a index tables jobs ≡ waiting_by b index tables jobs → waiting_by (cond (nat_eq (changed id (committed_at place at) t).id n) (Some (changed id (committed_at place at) t)) a) index tables jobs ≡ waiting_by (cond (nat_eq t.id n) (Some t) b) index tables jobs
+committed_cons id n index place at t a b tables jobs true is e = rw is (committed_hit index place at t a b tables jobs (nat_eq t.id n) e)
+committed_cons id n index place at t a b tables jobs false is e = rw is (by_cons index t a b tables jobs (nat_eq t.id n) e)
+
+pub waiting_committed : (id n index place at : ℕ) (ts : List Txn) (tables : List Table) (jobs : List JobInfo) → waiting_by (txn_at n (map (changed id (committed_at place at)) ts)) index tables jobs ≡ waiting_by (txn_at n ts) index tables jobs
+waiting_committed id n index place at [] tables jobs = refl
+waiting_committed id n index place at (t ∷ ts) tables jobs = committed_cons id n index place at t (txn_at n (map (changed id (committed_at place at)) ts)) (txn_at n ts) tables jobs (nat_eq t.id id) refl (waiting_committed id n index place at ts tables jobs)

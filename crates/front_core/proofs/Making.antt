@@ -11,7 +11,7 @@ use Rattle.front_defs.specs.Indexes.{first_new}
 use Rattle.front_defs.specs.Stands.{HasBuckets, HasGrid, HasIndex, IndexTablets, TableTablets, lists_by, lists_for, stored_for, version_for}
 use Rattle.front_defs.specs.Stored.{StoredList}
 use Rattle.front_laws.specs.Tidy.{Each}
-use Rattle.front_core.specs.Tablets.{empty_tablets, nothing_stored}
+use Rattle.front_state.specs.Tablets.{empty_tablets, nothing_stored}
 
 -- ---- nothing is stored of it
 bucket_at : (buckets bucket : ℕ) (empty none : List StoredList) → none ≡ empty → get_or (replicate buckets empty) bucket none ≡ empty

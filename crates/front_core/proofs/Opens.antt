@@ -18,8 +18,9 @@ use Rattle.front_defs.specs.Jobs.{jobs_of}
 use Rattle.front_defs.specs.Stands.{HasGrid, View, StandsOpen}
 use Rattle.front_defs.specs.Transactions.{changed, begun_txn, txn_by, txns_of}
 use Rattle.front_laws.specs.Tidy.{Tidy}
-use Rattle.front_core.specs.Parts.{IsFront, with_db, with_table, load_begun, range_for, ended_at, with_end, BeginsLoad, EndsLoad}
-use Rattle.front_core.specs.Tablets.{empty_tablets}
+use Rattle.front_state.specs.Parts.{range_for, ended_at}
+use Rattle.front_core.specs.Parts.{IsFront, with_db, with_table, load_begun, with_end, BeginsLoad, EndsLoad}
+use Rattle.front_state.specs.Tablets.{empty_tablets}
 use Rattle.front_core.proofs.Alters.{no_jobs, stands_so}
 use Rattle.front_core.proofs.Going.{Acts}
 use Rattle.front_core.proofs.Loads.{waiting_more, by_more, waiting_ended, waiting_tabled}

@@ -21,7 +21,7 @@ use Rattle.front_laws.specs.Laws.{IndexFoldsTo, NumbersAscend, joined}
 use Rattle.front_laws.specs.Tidy.{Each, Pairs}
 use Rattle.front_laws.proofs.Lists.{each_found, eq_is}
 use Rattle.front_core.specs.Parts.{Shares, SharedFor, SharesLists}
-use Rattle.front_core.specs.Tablets.{base_lists}
+use Rattle.front_state.specs.Tablets.{base_lists}
 
 named_cons : (t u : Table) (us : List Table) (b h : Bool) → nat_eq u.number t.number ≡ h → Each (λ (x : Table). u.number < x.number) us → (p : Table → Bool) → cond b (Some u) (find p us) ≡ Some t → (find p us ≡ Some t → table_at t.number us ≡ Some t) → cond h (Some u) (table_at t.number us) ≡ Some t
 named_cons t u us true true is a p f k = f

@@ -34,8 +34,9 @@ use Rattle.row_map.specs.Maps.{rollup_map}
 use Rattle.front_laws.specs.Laws.{HasShape}
 use Rattle.front_laws.specs.Tidy.{Each, HasHome, HomeBy, IsHome, IsPlanned, Tidy}
 use Rattle.front_laws.proofs.Lists.{found_id, each_found}
-use Rattle.front_core.specs.Catalogued.{IsPlainTable}
-use Rattle.front_core.specs.Parts.{IsFront, TakesRows, is_for_base, places_by, sets_by, submitted_at, with_rows}
+use Rattle.front_state.specs.Catalogued.{IsPlainTable}
+use Rattle.front_state.specs.Parts.{places_by, submitted_at}
+use Rattle.front_core.specs.Parts.{IsFront, TakesRows, is_for_base, sets_by, with_rows}
 use Rattle.front_core.proofs.Alters.{no_jobs, stands_so}
 use Rattle.front_core.proofs.Changing.{put_changed}
 use Rattle.front_core.proofs.Going.{Acts}

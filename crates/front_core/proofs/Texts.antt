@@ -13,10 +13,10 @@ use Rattle.front_defs.specs.History.{Faulted, Well, outcome}
 use Rattle.front_defs.specs.Stands.{TableTablets, View, waiting_for}
 use Rattle.front_defs.specs.Stored.{PlacedRows}
 use Rattle.front_defs.specs.Transactions.{due}
-use Rattle.front_core.specs.declared.kept.Kept.{Kept}
-use Rattle.front_core.specs.Parts.{IsPublished, StoresSets, with_end, Takes, TakesRows, TransactionsView, CatalogueView, front_view}
+use Rattle.txn_core.specs.declared.info.TxnInfo.{TxnInfo}
+use Rattle.front_core.specs.Parts.{IsPublished, StoresSets, with_end}
 use Rattle.front_core.specs.Refused.{RefusesDef}
-use Rattle.front_core.specs.Seen.{seen, sets_in}
+use Rattle.txn_core.specs.Seen.{seen, sets_in}
 
 pub on_ok : {T E : Type 0} (r : Result T E) (P Q : Type 0) → (P → Q) → OnOk r P → OnOk r Q
 on_ok (Ok x) P Q f h = f h
@@ -41,7 +41,7 @@ refused_no_fault table def r (inr e) w = by_fault (def_fault table def) e
     by_fault (Some x) f = let i : r ≡ reply.BadTable x = cc in absurd (cc (w, ap outcome i))
 
 -- what a Publish leaves
-pub published_by : (at : ℕ) (old : View) (k : Kept) (tablets : List TableTablets) (new : View) → Some (seen k) ≡ due old.txns → waiting_for k.id 0 old.waiting ≡ sets_in k.held → StoresSets k.table (sets_in k.held) old.tablets tablets → new ≡ record (with_end k.id state.Visible at old) { tablets = tablets } → IsPublished at old new
+pub published_by : (at : ℕ) (old : View) (k : TxnInfo) (tablets : List TableTablets) (new : View) → Some (seen k) ≡ due old.txns → waiting_for k.id 0 old.waiting ≡ sets_in k.held → StoresSets k.table (sets_in k.held) old.tablets tablets → new ≡ record (with_end k.id state.Visible at old) { tablets = tablets } → IsPublished at old new
 published_by at old k tablets new f w t e =
     let same : tablets ≡ new.tablets = ap (λ (v : View). v.tablets) (sym e) in
     record {
@@ -50,8 +50,3 @@ published_by at old k tablets new f w t e =
       stored = subst (λ (ts : List TableTablets). StoresSets k.table (waiting_for k.id 0 old.waiting) old.tablets ts) same (rw w t);
       rest = e ∙ ap (λ (ts : List TableTablets). record (with_end k.id state.Visible at old) { tablets = ts }) same;
     }
-
--- what a Submit leaves of the front is what it leaves of the transactions
-pub takes_rows : (o : Option Txn) (id : ℕ) (held rows : List (List Cell)) (waiting sets : List PlacedRows) (at : ℕ) (old new : TransactionsView) (c : CatalogueView) → held ≡ rows → waiting ≡ sets → Takes o id held waiting at old new → TakesRows o id rows sets at (front_view c old) (front_view c new)
-takes_rows None id held rows waiting sets at old new c e f h = h
-takes_rows (Some t) id held rows waiting sets at old new c e f h = rw (h, e, f) refl

@@ -1,8 +1,6 @@
--- The two parts of a front, and what each command makes of them by its reply.
-use Rattle.std.specs.Prelude.{◌≡◌, ℕ, ◌+◌, ◌≤◌, Bool, true, false, cond, List, [], ◌∷◌, ◌++◌, Option, Some, None, map, nat_eq, nat_lt, is_some}
+-- What each command makes of what a front has, by its reply.
+use Rattle.std.specs.Prelude.{◌≡◌, ℕ, ◌+◌, ◌≤◌, Bool, true, false, cond, List, [], ◌∷◌, ◌++◌, Option, Some, None, count_by, filter, map, nat_eq, not, is_some}
 use Rattle.dl_values.specs.declared.cell.Cell.{Cell}
-use Rattle.schema_models.specs.ShapeView.{ShapeView}
-use Rattle.partitions.specs.LayoutView.{LayoutView}
 use Rattle.rowsets.specs.RowsetView.{rowset_rows}
 use Rattle.labels.specs.declared.txn_state.TxnState.{TxnState}
 use Rattle.labels.specs.declared.txn_state.TxnState.TheVariants as state
@@ -12,7 +10,8 @@ use Rattle.front_defs.specs.declared.reply.Placed.{Placed}
 use Rattle.front_defs.specs.declared.reply.Reply.{Reply}
 use Rattle.front_defs.specs.declared.reply.Reply.TheVariants as reply
 use Rattle.front_defs.specs.Catalogue.{new_table, has_db, table_named}
-use Rattle.front_defs.specs.Ids.{range_size}
+use Rattle.alter_core.specs.declared.job.JobInfo.{JobInfo}
+use Rattle.front_defs.specs.Jobs.{is_job_over}
 use Rattle.front_defs.specs.May.{seen_set}
 use Rattle.front_defs.specs.Stands.{TableTablets, WaitingRows, View, stored_for, waiting_for}
 use Rattle.front_defs.specs.Stored.{PlacedRows}
@@ -25,79 +24,13 @@ use Rattle.shadow_writes.specs.declared.built.Mapped.{Mapped}
 use Rattle.shadow_writes.specs.declared.built.Mapped.TheVariants.{Sets}
 use Rattle.shadow_writes.specs.declared.built.TabletRows.{TabletRows}
 use Rattle.front_laws.specs.Tidy.{Each}
-use Rattle.front_defs.specs.Answer.{label_for, placed_for, snapshot_refusals}
+use Rattle.front_defs.specs.Answer.{CommittedFor, commit_refusals, drop_table_refusals, label_for, placed_for, snapshot_refusals, sweep_refusals}
+use Rattle.front_defs.specs.declared.command.TxnKey.{TxnKey}
 use Rattle.front_defs.specs.Refusals.{Answers}
-use Rattle.front_defs.specs.Transactions.{changed, begun_txn, due}
-use Rattle.front_core.specs.Catalogued.{IsPlainTable}
-use Rattle.front_core.specs.Tablets.{Stores, base_lists, empty_tablets}
-
--- the databases, the tables, and what is stored of them
-pub record CatalogueView : Type 0 where
-  pub databases : List (List ℕ)
-  pub tables : List Table
-  pub last_table : ℕ
-  pub tablets : List TableTablets
-
--- the transactions, what waits of them, and the numbers and places that come next
-pub record TransactionsView : Type 0 where
-  pub txns : List Txn
-  pub waiting : List WaitingRows
-  pub range : ℕ
-  pub next : ℕ
-  pub places : ℕ
-
--- what waits of the transaction of that number is this now
-abbrev pub given : ℕ → List PlacedRows → WaitingRows → WaitingRows
-given id sets w = cond (nat_eq w.txn id) (record { txn = w.txn; sets = sets ∷ [] }) w
-
--- a table as it is made by its definition
-abbrev pub table_of : List ℕ → List ℕ → ShapeView → LayoutView → ℕ → Table
-table_of db name shape layout number = new_table (record { db = db; name = name; shape = shape; layout = layout }) number
-
--- a table more, of which nothing is stored
-abbrev pub table_added : List ℕ → List ℕ → ShapeView → LayoutView → CatalogueView → CatalogueView
-table_added db name shape layout v = record v { tables = v.tables ++ table_of db name shape layout (v.last_table + 1) ∷ []; last_table = v.last_table + 1; tablets = v.tablets ++ empty_tablets (v.last_table + 1) layout ∷ [] }
-
--- a load begins with the next number, where need be in a new range
-abbrev pub range_for : ℕ → ℕ → ℕ
-range_for range next = cond (nat_lt range next) (range + range_size) range
-
-abbrev pub begun : Txn → WaitingRows → TransactionsView → TransactionsView
-begun t w v = record v { txns = v.txns ++ t ∷ []; waiting = v.waiting ++ w ∷ []; range = range_for v.range v.next; next = v.next + 1 }
-
--- a load that is submitted has its place, or waits for its commit
-abbrev pub state_by : Option Placed → TxnState
-state_by None = state.Precommitted
-state_by (Some p) = state.Committed
-
-abbrev pub place_by : Option Placed → Option ℕ
-place_by None = None
-place_by (Some p) = Some p.place
-
-abbrev pub places_by : Option Placed → ℕ → ℕ
-places_by None last = last
-places_by (Some p) last = p.place
-
-abbrev pub submitted_at : Option Placed → List (List Cell) → ℕ → Txn → Txn
-submitted_at placed rows at t = record t { state = state_by placed; since = at; place = place_by placed; told = true; rows = rows }
-
-abbrev pub submitted : ℕ → Option Placed → List (List Cell) → List PlacedRows → ℕ → TransactionsView → TransactionsView
-submitted id placed rows sets at v = record v { txns = map (changed id (submitted_at placed rows at)) v.txns; waiting = map (given id sets) v.waiting; places = places_by placed v.places }
-
--- an end, which keeps no rows
-abbrev pub ended_at : TxnState → ℕ → Txn → Txn
-ended_at s at t = record t { state = s; since = at; rows = [] }
-
-abbrev pub ended : ℕ → TxnState → ℕ → TransactionsView → TransactionsView
-ended id s at v = record v { txns = map (changed id (ended_at s at)) v.txns; waiting = map (given id []) v.waiting }
-
--- the load that is due is visible, if there is one
-abbrev pub published_as : Option Txn → ℕ → TransactionsView → TransactionsView
-published_as None at v = v
-published_as (Some t) at v = ended t.id state.Visible at v
-
-abbrev pub published : ℕ → TransactionsView → TransactionsView
-published at v = published_as (due v.txns) at v
+use Rattle.front_defs.specs.Transactions.{changed, begun_txn, committed_at, dropped, due, is_expired, is_over, sweep, txn_by}
+use Rattle.front_state.specs.Catalogued.{IsPlainTable}
+use Rattle.front_state.specs.Tablets.{Stores, base_lists, empty_tablets}
+use Rattle.front_state.specs.Parts.{CatalogueView, TransactionsView, emptied_where, ended_at, given, is_fresh, is_of, places_by, range_for, submitted_at, waits_where}
 
 -- What each command leaves of what stood, where it is answered well. A name that is there already stays as it is.
 abbrev pub with_db : List ℕ → View → View
@@ -121,16 +54,41 @@ BeginsLoad None label two_phase at old new = ⊥
 BeginsLoad (Some t) label two_phase at old new = new ≡ with_load t label two_phase at old
 
 -- the rows of a load are taken
-abbrev pub Takes : Option Txn → ℕ → List (List Cell) → List PlacedRows → ℕ → TransactionsView → TransactionsView → Type 0
-Takes None id rows sets at old new = ⊥
-Takes (Some t) id rows sets at old new = new ≡ submitted id (placed_for (Some t) old.txns old.places) rows sets at old
-
 abbrev pub with_rows : ℕ → Option Placed → List (List Cell) → List PlacedRows → ℕ → View → View
 with_rows id placed rows sets at v = record v { txns = map (changed id (submitted_at placed rows at)) v.txns; waiting = map (given id sets) v.waiting; places = places_by placed v.places }
 
 abbrev pub TakesRows : Option Txn → ℕ → List (List Cell) → List PlacedRows → ℕ → View → View → Type 0
 TakesRows None id rows sets at old new = ⊥
 TakesRows (Some t) id rows sets at old new = new ≡ with_rows id (placed_for (Some t) old.txns old.places) rows sets at old
+
+-- a load is committed
+abbrev pub with_commit : ℕ → ℕ → View → View
+with_commit id at v = record v { txns = map (changed id (committed_at (v.places + 1) at)) v.txns; places = v.places + 1 }
+
+abbrev pub CommitsLoad : Option Txn → ℕ → View → View → Type 0
+CommitsLoad None at old new = ⊥
+CommitsLoad (Some t) at old new = new ≡ with_commit t.id at old
+
+abbrev pub Commits : List ℕ → TxnKey → ℕ → List (List ℕ) → List Txn → ℕ → Reply → Type 0
+Commits db key at dbs txns last r = Answers (commit_refusals at (has_db db dbs) (txn_by db key txns)) (CommittedFor (txn_by db key txns) txns last) r
+
+-- what has expired is aborted, and what ended long ago is forgotten
+abbrev pub with_sweep : ℕ → View → View
+with_sweep at v = record v { txns = sweep at v.txns; waiting = emptied_where (is_expired at) (filter (is_fresh at) v.txns) (waits_where (is_fresh at) v.txns v.waiting) }
+
+abbrev pub Sweeps : ℕ → List Txn → List JobInfo → Reply → Type 0
+Sweeps at txns jobs r = Answers (sweep_refusals at txns jobs) (λ r. r ≡ reply.Swept (count_by (is_expired at) txns) (count_by (is_over at) txns + count_by (is_job_over at) jobs)) r
+
+-- a table is dropped, with what is stored of it and what its loads hold
+abbrev pub with_drop : ℕ → ℕ → View → View
+with_drop n at v = record v { tables = filter (λ (t : Table). not (nat_eq t.number n)) v.tables; tablets = filter (λ (k : TableTablets). not (nat_eq k.table n)) v.tablets; txns = map (dropped n at) v.txns; waiting = emptied_where (is_of n) v.txns v.waiting }
+
+abbrev pub DropsTable : Option Table → ℕ → View → View → Type 0
+DropsTable None at old new = new ≡ old
+DropsTable (Some t) at old new = new ≡ with_drop t.number at old
+
+abbrev pub Drops : List ℕ → List ℕ → Bool → List (List ℕ) → List Table → Reply → Type 0
+Drops db name flag dbs tables r = Answers (drop_table_refusals db name flag dbs tables) (λ r. r ≡ reply.Done) r
 
 -- a load ends
 abbrev pub with_end : ℕ → TxnState → ℕ → View → View
@@ -185,11 +143,10 @@ pub record IsFront (v : View) : Type 0 where
   pub known : Each (λ (k : TableTablets). k.table ≤ v.last_table) v.tablets
   pub aligned : map (λ (w : WaitingRows). w.txn) v.waiting ≡ map (λ (t : Txn). t.id) v.txns
 
--- what becomes visible is stored: a load for more than one tablet is none that a front takes yet
+-- what becomes visible is stored; a table that got nothing of it may be gone
 abbrev pub StoresSets : ℕ → List PlacedRows → List TableTablets → List TableTablets → Type 0
 StoresSets table [] old new = new ≡ old
-StoresSets table (s ∷ []) old new = Stores table s old new
-StoresSets table (s ∷ t ∷ ss) old new = ⊥
+StoresSets table (s ∷ ss) old new = Stores table (s ∷ ss) old new
 
 pub record IsPublished (at : ℕ) (old new : View) : Type 0 where
   pub load : Txn

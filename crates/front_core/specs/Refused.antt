@@ -1,21 +1,27 @@
--- The refusals of a label.
-use Rattle.std.specs.Prelude.{◌≡◌, ℕ, not, List, Option, Some, None, ◌⊎◌}
+-- The refusals of a label, of a definition and of the transactions.
+use Rattle.std.specs.Prelude.{◌≡◌, ℕ, Bool, List, Option, Some, ◌⊎◌}
+use Rattle.front_defs.specs.declared.catalogue.Table.{Table}
 use Rattle.front_defs.specs.declared.reply.Reply.{Reply}
 use Rattle.front_defs.specs.declared.reply.Reply.TheVariants as reply
-use Rattle.labels.specs.declared.txn_state.TxnState.{TxnState}
-use Rattle.schema_models.specs.Faults.{refuse_if}
-use Rattle.front_defs.specs.Transactions.{is_aborted}
-use Rattle.front_defs.specs.Answer.{bad_label, refused_def}
+use Rattle.front_defs.specs.Answer.{refused_def}
 use Rattle.sql_text.specs.declared.table_def.TableDef.{TableDef}
+use Rattle.txn_core.specs.declared.error.TxnError.{TxnError}
+use Rattle.txn_core.specs.declared.error.TxnError.TheVariants as error
+use Rattle.txn_core.specs.declared.start.TxnStart.{TxnStart}
 
--- want of memory, or the refusal of this label
-abbrev pub RefusesLabel : Option (List ℕ) → Reply → Type 0
-RefusesLabel label r = (r ≡ reply.NoMemory) ⊎ (bad_label label ≡ Some r)
+-- what a load of a table begins with
+abbrev pub start_of : Table → Option (List ℕ) → Bool → ℕ → TxnStart
+start_of t label two_phase at = record { db = t.db; table = t.number; label = label; two_phase = two_phase; schema = t.schema; at = at }
 
--- why a label that is held cannot be used
-abbrev pub held_refusal : Option (ℕ × TxnState) → Option Reply
-held_refusal None = None
-held_refusal (Some h) = refuse_if (not (is_aborted h.1)) (reply.Used h.0 h.1)
+-- the reply that tells a refusal
+abbrev pub reply_for : TxnError → Reply
+reply_for (error.Used txn s) = reply.Used txn s
+reply_for error.NoSuchTxn = reply.NoSuchTxn
+reply_for (error.WrongState s) = reply.WrongState s
+reply_for (error.Expired since) = reply.Expired since
+reply_for error.NothingToPublish = reply.NothingToPublish
+reply_for error.NothingToSweep = reply.NothingToSweep
+reply_for error.NoMemory = reply.NoMemory
 
 -- want of memory, or the refusal of this definition
 abbrev pub RefusesDef : List ℕ → TableDef → Reply → Type 0

@@ -1,11 +1,11 @@
 // What a load that is built for the base of its table holds.
 ghost use Rattle.std.specs.Prelude.{◌≡◌, ◌∷◌, [], IfSome, IfNone, Some, false, true};
 ghost use Rattle.front_core.specs.Parts.{is_for_base, sets_by};
-ghost use Rattle.front_core.specs.Seen.{sets_in};
+ghost use Rattle.txn_core.specs.Seen.{sets_in};
 
-use crate::kept::Held;
 use shadow_writes::{Built, Mapped};
 use sqlite_items::Items;
+use txn_core::Held;
 
 // The only one of a list.
 fn only(targets: Items<Mapped>) -> Option<Mapped>

@@ -1,10 +1,10 @@
 // The front: what stands in the service, and how it answers commands.
-ghost use Rattle.std.specs.Prelude.{◌≡◌, ℕ, [], ◌∷◌, List, false, true};
+ghost use Rattle.std.specs.Prelude.{◌≡◌, ℕ, [], ◌∷◌, List, Some, false, true};
 ghost use Rattle.front_defs.specs.Answer.{Aborts, Begins, CreatesDb, CreatesTable, Publishes, Submits};
 ghost use Rattle.front_defs.specs.History.{outcome, Well, Refused, Faulted};
 ghost use Rattle.front_defs.specs.Catalogue.{table_named};
 ghost use Rattle.front_defs.specs.Transactions.{txn_at, txn_by};
-ghost use Rattle.front_core.specs.Parts.{BeginsLoad, EndsLoad, IsCalm, IsFront, IsPublished, TakesRows, Shares, front_view, is_for_base, sets_by, with_db, with_table};
+ghost use Rattle.front_core.specs.Parts.{BeginsLoad, EndsLoad, IsCalm, IsFront, IsPublished, TakesRows, Shares, Commits, CommitsLoad, Drops, DropsTable, Sweeps, with_sweep, front_view, is_for_base, sets_by, with_db, with_table};
 ghost use Rattle.front_defs.specs.Gives.{Gives};
 ghost use Rattle.front_defs.specs.declared.history.Entry.{Entry};
 ghost use Rattle.front_defs.specs.declared.history.Entry.TheVariants.{Made};
@@ -12,25 +12,26 @@ ghost use Rattle.front_defs.specs.Legal.{Legal};
 ghost use Rattle.front_defs.specs.May.{May};
 ghost use Rattle.front_defs.specs.Stands.{Stands};
 ghost use Rattle.front_core.specs.Made.{made};
+ghost use Rattle.txn_core.specs.Seen.{sets_in};
 ghost use Rattle.labels.specs.declared.txn_state.TxnState.TheVariants as state;
 
-use crate::begins::{begun, has_one_tablet, label_or_refusal, plan, used_refusal};
-use crate::catalogue::Catalogue;
+use crate::begins::{label_refusal, plan, start};
 use crate::defined::defined;
 use crate::fitting::held_of;
+use crate::refusal::refusal;
 use crate::stored::{snapshot_of, store_held};
-use crate::transactions::Transactions;
 use dl_outside::Steps;
 use dl_values::{Name, NoMemory};
 use front_defs::{Command, Reply, TxnKey};
 use front_laws::laws;
-use labels::TxnState;
+use front_state::{Catalogue, Transactions};
 use schema_models::is_name;
 use shadow_writes::Built;
 use sql_text::TableDef;
 use std::alloc::Global;
 use std::marker::Model;
 use std::sync::ledger::Ledger;
+use txn_core::Held;
 
 // At most so many databases, and so many tables in all.
 const MOST: usize = 1000;
@@ -158,29 +159,21 @@ impl Front {
             None => return Reply::UnknownTable,
             Some(table) => table,
         };
-        let txn = self.transactions.next();
-        let label = match label_or_refusal(self.alloc, label, txn) {
-            Ok(label) => label,
-            Err(refusal) => return refusal,
-        };
-        match used_refusal(self.transactions.label_state(&db, &label)) {
+        match label_refusal(&label) {
             None => {}
             Some(refusal) => return refusal,
         }
-        if !has_one_tablet(table) {
-            return Reply::NoMemory;
-        }
-        let plan = match plan(self.alloc, txn, table) {
+        let plan = match plan(self.alloc, self.transactions.next(), table) {
             Ok(plan) => plan,
             Err(NoMemory) => return Reply::NoMemory,
         };
-        let load = match begun(self.alloc, txn, table, label, two_phase, at) {
-            Ok(load) => load,
+        let start = match start(self.alloc, table, label, two_phase, at) {
+            Ok(start) => start,
             Err(NoMemory) => return Reply::NoMemory,
         };
-        match self.transactions.begin(load) {
-            Ok(()) => Reply::Begun { txn, plan },
-            Err(NoMemory) => Reply::NoMemory,
+        match self.transactions.begin(start) {
+            Ok(txn) => Reply::Begun { txn, plan },
+            Err(error) => refusal(error),
         }
     }
 
@@ -195,8 +188,24 @@ impl Front {
     {
         match held_of(built) {
             None => Reply::NoMemory,
-            Some(held) => self.transactions.submit(txn, Some(held), at),
+            Some(held) => self.take(txn, held, at),
         }
+    }
+
+    // Takes the rows of a load.
+    fn take(&mut self, txn: u64, held: Held, at: u64) -> Reply
+        ensures answer { Submits txn at self.old.txns self.old.places result }
+        ensures well { outcome result ≡ Well → TakesRows (txn_at txn self.old.txns) txn held.rows (sets_in (Some held)) at self.old self.new }
+        ensures kept { outcome result ≡ Refused → self.new ≡ self.old }
+        ensures works { outcome result ≡ Faulted → ⊥ }
+        ensures gives { Gives result }
+        ensures calm { IsCalm self.old self.new }
+    {
+        let placed = match self.transactions.submit(txn, Some(held), at) {
+            Ok(placed) => placed,
+            Err(error) => return refusal(error),
+        };
+        Reply::Submitted { placed }
     }
 
     fn publish(&mut self, at: u64) -> Reply
@@ -213,7 +222,7 @@ impl Front {
         };
         let txn = load.id;
         let place = load.place.unwrap_or(0);
-        match store_held(&mut self.catalogue, load) {
+        match store_held(self.alloc, &mut self.catalogue, load) {
             Ok(()) => {
                 self.transactions.publish(at);
                 Reply::Published { txn, place }
@@ -233,19 +242,80 @@ impl Front {
         if !self.catalogue.has_db(&db) {
             return Reply::UnknownDb;
         }
-        let (txn, state) = match self.transactions.txn_by(&db, &key) {
+        let txn = match self.transactions.txn_by(&db, &key) {
             None => return Reply::NoSuchTxn,
-            Some(load) => (load.id, load.state),
+            Some(load) => load.id,
         };
-        match state {
-            TxnState::Prepare | TxnState::Precommitted => {
-                self.transactions.abort(txn, at);
-                Reply::Aborted { txn }
-            }
-            TxnState::Committed | TxnState::Visible | TxnState::Aborted => {
-                Reply::WrongState { state }
-            }
+        match self.transactions.abort(txn, at) {
+            Ok(()) => Reply::Aborted { txn },
+            Err(error) => refusal(error),
         }
+    }
+
+    fn commit(&mut self, db: Name, key: TxnKey, at: u64) -> Reply
+        ensures answer { Commits db key at self.old.databases self.old.txns self.old.places result }
+        ensures well { outcome result ≡ Well → CommitsLoad (txn_by db key self.old.txns) at self.old self.new }
+        ensures kept { outcome result ≡ Refused → self.new ≡ self.old }
+        ensures works { outcome result ≡ Faulted → ⊥ }
+        ensures gives { Gives result }
+        ensures calm { IsCalm self.old self.new }
+    {
+        if !self.catalogue.has_db(&db) {
+            return Reply::UnknownDb;
+        }
+        let txn = match self.transactions.txn_by(&db, &key) {
+            None => return Reply::NoSuchTxn,
+            Some(load) => load.id,
+        };
+        match self.transactions.commit(txn, at) {
+            Ok(placed) => Reply::Committed {
+                txn,
+                place: placed.place,
+                ahead: placed.ahead,
+            },
+            Err(error) => refusal(error),
+        }
+    }
+
+    fn sweep(&mut self, at: u64) -> Reply
+        ensures answer { Sweeps at self.old.txns self.old.jobs result }
+        ensures well { outcome result ≡ Well → self.new ≡ with_sweep at self.old }
+        ensures kept { outcome result ≡ Refused → self.new ≡ self.old }
+        ensures works { outcome result ≡ Faulted → ⊥ }
+        ensures gives { Gives result }
+        ensures calm { IsCalm self.old self.new }
+    {
+        let (aborted, cleaned) = match self.transactions.sweep(at) {
+            Ok(counts) => counts,
+            Err(error) => return refusal(error),
+        };
+        Reply::Swept { aborted, cleaned }
+    }
+
+    fn drop_table(&mut self, db: Name, table: Name, if_exists: bool, at: u64) -> Reply
+        ensures answer { Drops db table if_exists self.old.databases self.old.tables result }
+        ensures well { outcome result ≡ Well → DropsTable (table_named db table self.old.tables) at self.old self.new }
+        ensures kept { outcome result ≡ Refused → self.new ≡ self.old }
+        ensures works { outcome result ≡ Faulted → ⊥ }
+        ensures gives { Gives result }
+        ensures calm { IsCalm self.old self.new }
+    {
+        if !self.catalogue.has_db(&db) {
+            return Reply::UnknownDb;
+        }
+        let number = match self.catalogue.table(&db, &table) {
+            None => {
+                return if if_exists {
+                    Reply::Done
+                } else {
+                    Reply::UnknownTable
+                };
+            }
+            Some(table) => table.number,
+        };
+        self.catalogue.drop_table(number);
+        self.transactions.drop_table(number, at);
+        Reply::Done
     }
 
     fn snapshot(&self, db: Name, table: Name) -> Reply
@@ -302,16 +372,21 @@ impl Front {
             Command::Submit { txn, built, at } => self.submit(txn, built, at),
             Command::Publish { at } => self.publish(at),
             Command::Abort { db, txn, at } => self.abort(db, txn, at),
+            Command::Commit { db, txn, at } => self.commit(db, txn, at),
             Command::Snapshot {
                 db,
                 table,
                 query: _,
             } => self.snapshot(db, table),
+            Command::Sweep { at } => self.sweep(at),
+            Command::DropTable {
+                db,
+                table,
+                if_exists,
+                at,
+            } => self.drop_table(db, table, if_exists, at),
             // Not built yet.
-            Command::DropTable { .. }
-            | Command::AddPartition { .. }
-            | Command::Commit { .. }
-            | Command::Sweep { .. }
+            Command::AddPartition { .. }
             | Command::AddAlter { .. }
             | Command::CancelAlter { .. }
             | Command::Advance { .. }

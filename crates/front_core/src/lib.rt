@@ -2,20 +2,12 @@
 #![tactic(auto)]
 
 mod begins;
-mod catalogue;
-mod changes;
 mod defined;
-mod finds;
 mod fitting;
 mod front;
-mod kept;
 mod names;
+mod refusal;
 mod stored;
-mod stored_table;
-mod storing;
-mod table_key;
-mod transactions;
-mod waiter;
 
 pub use front::Front;
 pub use front_defs::{Command, Reply, Turns};

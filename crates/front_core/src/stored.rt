@@ -7,18 +7,18 @@ ghost use Rattle.shadow_writes.specs.declared.built.TabletRows.{TabletRows};
 ghost use Rattle.rowsets.specs.RowsetView.{IsListOf};
 ghost use Rattle.front_defs.specs.declared.reply.Reply.TheVariants as reply;
 ghost use Rattle.front_core.specs.Parts.{SharesLists, StoresSets};
-ghost use Rattle.front_core.specs.Seen.{sets_in};
+ghost use Rattle.txn_core.specs.Seen.{sets_in};
 
-use crate::catalogue::Catalogue;
-use crate::kept::Kept;
 use dl_values::NoMemory;
 use front_defs::Table;
+use front_state::Catalogue;
 use merge_read::Snapshot;
 use rowsets::Rowset;
 use schema_models::Shape;
 use shadow_writes::TabletRows;
 use std::alloc::Global;
 use std::sync::Arc;
+use txn_core::TxnInfo;
 
 // The shapes of a table, and what is stored of it.
 pub fn snapshot_of(
@@ -54,26 +54,30 @@ fn are_lists_of(shape: &Shape, lists: &[Arc<Rowset>]) -> bool
     true
 }
 
-// Adds the rows of a load to what is stored of its table. One for more than one tablet is none that was begun here.
-pub fn store_held(catalogue: &mut Catalogue, load: &Kept) -> Result<(), NoMemory>
+// Adds the rows of a load to what is stored of its table.
+pub fn store_held(alloc: Global, catalogue: &mut Catalogue, load: &TxnInfo) -> Result<(), NoMemory>
     ensures ok { OnOk result (StoresSets load.now.table (sets_in load.now.held) catalogue.old.tablets catalogue.new.tablets) }
     ensures rest { catalogue.new ≡ record catalogue.old { tablets = catalogue.new.tablets } }
     ensures err { OnErr result (catalogue.new ≡ catalogue.old) }
 {
     match &load.held {
         None => Ok(()),
-        Some(held) => store_sets(catalogue, load.table, held.sets.as_slice()),
+        Some(held) => store_sets(alloc, catalogue, load.table, held.sets.as_slice()),
     }
 }
 
-fn store_sets(catalogue: &mut Catalogue, table: u64, sets: &[TabletRows]) -> Result<(), NoMemory>
+fn store_sets(
+    alloc: Global,
+    catalogue: &mut Catalogue,
+    table: u64,
+    sets: &[TabletRows],
+) -> Result<(), NoMemory>
     ensures ok { OnOk result (StoresSets table (map (λ (s : TabletRows). seen_set s) sets.now) catalogue.old.tablets catalogue.new.tablets) }
     ensures rest { catalogue.new ≡ record catalogue.old { tablets = catalogue.new.tablets } }
     ensures err { OnErr result (catalogue.new ≡ catalogue.old) }
 {
     match sets {
         [] => Ok(()),
-        [set] => catalogue.store(table, set),
-        _ => Err(NoMemory),
+        sets => catalogue.store(alloc, table, sets),
     }
 }

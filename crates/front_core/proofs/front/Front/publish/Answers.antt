@@ -2,7 +2,7 @@ use Rattle.std.proofs.Common.{◌≡◌, Some, rules}
 use Rattle.front_defs.specs.Stands.{waiting_for}
 use Rattle.front_defs.specs.Transactions.{due}
 use Rattle.front_core.specs.Parts.{StoresSets}
-use Rattle.front_core.specs.Seen.{seen, sets_in}
+use Rattle.txn_core.specs.Seen.{seen, sets_in}
 use Rattle.front_core.proofs.Texts.{published_by}
 use Rattle.front_core.proofs.front.Front.publish.Goals as goal
 

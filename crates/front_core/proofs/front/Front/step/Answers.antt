@@ -11,6 +11,9 @@ use Rattle.front_core.specs.Made.{made}
 use Rattle.front_core.proofs.Going.{stands_on, legal_on}
 use Rattle.front_core.proofs.Opens.{makes_db, makes_table, begins_load, ends_load}
 use Rattle.front_laws.proofs.Histories.{kept}
+use Rattle.front_core.proofs.Committing.{commits, commits_load}
+use Rattle.front_core.proofs.Dropping.{drops_so, drops_table}
+use Rattle.front_core.proofs.Sweeping.{sweeps_all, sweeps_so}
 use Rattle.front_core.proofs.Publishing.{publishes_load}
 use Rattle.front_core.proofs.Showing.{snaps}
 use Rattle.front_core.proofs.Taking.{submits, takes_load}
@@ -69,6 +72,48 @@ returns-in-Abort-clause-stands g c = λ H seat s l m.
     subst (λ (x : Command). Stands c.abort.new.self (Made (made seat x c.abort.result) ∷ H)) (sym k.is)
     (stands_on c.args.self.now c.abort.new.self H seat (command.Abort k.db k.txn k.at) c.abort.result c.vouch.ensures c.abort.ensures.calm c.abort.ensures.works c.abort.ensures.kept
     (λ w o. ends_load c.args.self.now c.abort.new.self (happened H) k.db k.txn k.at (c.abort.ensures.well w) c.vouch.ensures o) s)
+
+pub returns-in-Commit-clause-stands : goal.returns-in-Commit-clause-stands
+returns-in-Commit-clause-stands g c = λ H seat s l m.
+    let k = c.in-Commit in
+    subst (λ (x : Command). Stands c.commit.new.self (Made (made seat x c.commit.result) ∷ H)) (sym k.is)
+    (stands_on c.args.self.now c.commit.new.self H seat (command.Commit k.db k.txn k.at) c.commit.result c.vouch.ensures c.commit.ensures.calm c.commit.ensures.works c.commit.ensures.kept
+    (λ w o. commits_load c.args.self.now c.commit.new.self (happened H) k.db k.txn k.at (c.commit.ensures.well w) c.vouch.ensures o) s)
+
+pub returns-in-Commit-clause-legal : goal.returns-in-Commit-clause-legal
+returns-in-Commit-clause-legal g c = λ H seat s l m.
+    let k = c.in-Commit in
+    subst (λ (x : Command). Legal (Made (made seat x c.commit.result) ∷ H)) (sym k.is)
+    (legal_on c.args.self.now H seat (command.Commit k.db k.txn k.at) c.commit.result c.vouch.ensures c.commit.ensures.works (λ e d. absurd (cc))
+    (λ o. commits c.args.self.now (happened H) k.db k.txn k.at c.commit.result c.commit.ensures.answer o) s l tt)
+
+pub returns-in-Sweep-clause-stands : goal.returns-in-Sweep-clause-stands
+returns-in-Sweep-clause-stands g c = λ H seat s l m.
+    let k = c.in-Sweep in
+    subst (λ (x : Command). Stands c.sweep.new.self (Made (made seat x c.sweep.result) ∷ H)) (sym k.is)
+    (stands_on c.args.self.now c.sweep.new.self H seat (command.Sweep k.at) c.sweep.result c.vouch.ensures c.sweep.ensures.calm c.sweep.ensures.works c.sweep.ensures.kept
+    (λ w o. sweeps_all c.args.self.now c.sweep.new.self (happened H) k.at (c.sweep.ensures.well w) c.vouch.ensures (kept H l).good.tidy o) s)
+
+pub returns-in-Sweep-clause-legal : goal.returns-in-Sweep-clause-legal
+returns-in-Sweep-clause-legal g c = λ H seat s l m.
+    let k = c.in-Sweep in
+    subst (λ (x : Command). Legal (Made (made seat x c.sweep.result) ∷ H)) (sym k.is)
+    (legal_on c.args.self.now H seat (command.Sweep k.at) c.sweep.result c.vouch.ensures c.sweep.ensures.works (λ e d. absurd (cc))
+    (λ o. sweeps_so c.args.self.now (happened H) k.at c.sweep.result c.sweep.ensures.answer o) s l tt)
+
+pub returns-in-DropTable-clause-stands : goal.returns-in-DropTable-clause-stands
+returns-in-DropTable-clause-stands g c = λ H seat s l m.
+    let k = c.in-DropTable in
+    subst (λ (x : Command). Stands c.drop_table.new.self (Made (made seat x c.drop_table.result) ∷ H)) (sym k.is)
+    (stands_on c.args.self.now c.drop_table.new.self H seat (command.DropTable k.db k.table k.if_exists k.at) c.drop_table.result c.vouch.ensures c.drop_table.ensures.calm c.drop_table.ensures.works c.drop_table.ensures.kept
+    (λ w o. drops_table c.args.self.now c.drop_table.new.self (happened H) k.db k.table k.if_exists k.at (c.drop_table.ensures.well w) c.vouch.ensures o) s)
+
+pub returns-in-DropTable-clause-legal : goal.returns-in-DropTable-clause-legal
+returns-in-DropTable-clause-legal g c = λ H seat s l m.
+    let k = c.in-DropTable in
+    subst (λ (x : Command). Legal (Made (made seat x c.drop_table.result) ∷ H)) (sym k.is)
+    (legal_on c.args.self.now H seat (command.DropTable k.db k.table k.if_exists k.at) c.drop_table.result c.vouch.ensures c.drop_table.ensures.works (λ e d. absurd (cc))
+    (λ o. drops_so c.args.self.now (happened H) k.db k.table k.if_exists k.at c.drop_table.result c.drop_table.ensures.answer o) s l tt)
 
 pub returns-in-Snapshot-clause-legal : goal.returns-in-Snapshot-clause-legal
 returns-in-Snapshot-clause-legal g c = λ H seat s l m.
