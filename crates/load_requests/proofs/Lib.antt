@@ -6,3 +6,4 @@ pub mod Fronts
 pub mod Lists
 pub mod Separators
 pub mod Utf8
+pub mod Digits

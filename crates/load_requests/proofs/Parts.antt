@@ -3,7 +3,7 @@ use Rattle.std.proofs.Common.{◌≡◌, ◌+◌, ◌-◌, ◌<◌, ◌≤◌, l
 use Rattle.std.specs.List.{prefix_len, onto_first}
 use Rattle.std.proofs.lemmas.List.{take_all}
 use Rattle.load_requests.specs.Bytes.{is_slash}
-use Rattle.load_requests.specs.Targets.{parts_of, only_five}
+use Rattle.load_requests.specs.Targets.{parts_of, only_four, only_five}
 
 abbrev pub in_part : ℕ → Bool
 in_part b = not (is_slash b)
@@ -42,6 +42,10 @@ parts_more path front [] n cut h = absurd (omega arith)
 parts_more path front (slash ∷ rest) n cut h =
     let all : take (length (slash ∷ rest) - 1) rest ≡ rest = take_all (length (slash ∷ rest) - 1) rest (omega arith) in
     cut_is path front (slash ∷ rest) n cut ∙ sym (ap (λ left. front ∷ parts_of left) all)
+
+-- a path that goes on behind its fourth part
+pub more_than_four : (a b c d rest : List ℕ) → only_four (a ∷ b ∷ c ∷ d ∷ parts_of rest) ≡ None
+more_than_four a b c d rest = ap (λ parts. only_four (a ∷ b ∷ c ∷ d ∷ parts)) (cut_parts rest)
 
 -- a path that goes on behind its fifth part
 pub too_many : (a b c d e rest : List ℕ) → only_five (a ∷ b ∷ c ∷ d ∷ e ∷ parts_of rest) ≡ None

@@ -1,10 +1,10 @@
 -- The fields of a load (Apache Doris documentation, "Stream Load", "Load configuration parameters"; which values are taken
 -- is this project's own). Names are compared without case.
-use Rattle.std.specs.Prelude.{ℕ, Bool, is_some, List, [], ◌∷◌, ◌++◌, codes, Option, Some, None, if◌then◌else◌}
+use Rattle.std.specs.Prelude.{ℕ, ◌||◌, Bool, is_some, List, [], ◌∷◌, ◌++◌, codes, Option, Some, None, if◌then◌else◌}
 use Rattle.std.specs.List.{list_any}
 use Rattle.std.specs.Str.{bytes_eq, is_utf8, str_eq_ignore_ascii_case}
 use Rattle.http_wire.specs.Fields.{is_named}
-use Rattle.csv_load.specs.Options.{separator_of}
+use Rattle.csv_load.specs.Options.{ratio_of, separator_of}
 
 -- the text that says why, where a value is not taken
 abbrev pub unless : Bool → List ℕ → Option (List ℕ)
@@ -24,11 +24,10 @@ single_names = codes "label" ∷ codes "column_separator" ∷ codes "max_filter_
 -- the fields that no load may have
 abbrev pub refused_names : List (List ℕ)
 refused_names =
-    codes "max_filter_ratio" ∷ codes "strict_mode" ∷ codes "two_phase_commit" ∷ codes "columns" ∷ codes "where"
-    ∷ codes "partitions" ∷ codes "temporary_partitions" ∷ codes "jsonpaths" ∷ codes "json_root" ∷ codes "strip_outer_array"
-    ∷ codes "merge_type" ∷ codes "delete" ∷ codes "negative" ∷ codes "compress_type" ∷ codes "content-encoding"
-    ∷ codes "enclose" ∷ codes "escape" ∷ codes "skip_lines" ∷ codes "trim_double_quotes" ∷ codes "hidden_columns"
-    ∷ codes "partial_columns" ∷ codes "function_column.sequence_col" ∷ []
+    codes "columns" ∷ codes "where" ∷ codes "partitions" ∷ codes "temporary_partitions" ∷ codes "jsonpaths" ∷ codes "json_root"
+    ∷ codes "strip_outer_array" ∷ codes "merge_type" ∷ codes "delete" ∷ codes "negative" ∷ codes "compress_type"
+    ∷ codes "content-encoding" ∷ codes "enclose" ∷ codes "escape" ∷ codes "skip_lines" ∷ codes "trim_double_quotes"
+    ∷ codes "hidden_columns" ∷ codes "partial_columns" ∷ codes "function_column.sequence_col" ∷ []
 
 -- the first of these names that a field has
 abbrev pub named_in : List (List ℕ) → List ℕ → Option (List ℕ)
@@ -46,6 +45,14 @@ refused_name name = named_in refused_names name
 unfoldable pub separates : List ℕ → Bool
 separates value = is_some (separator_of value)
 
+-- whether a value stands for a ratio
+unfoldable pub is_ratio : List ℕ → Bool
+is_ratio value = is_some (ratio_of value)
+
+-- whether a value says yes or no
+unfoldable pub is_flag : List ℕ → Bool
+is_flag value = str_eq_ignore_ascii_case value (codes "true") || str_eq_ignore_ascii_case value (codes "false")
+
 abbrev pub text_of : (List ℕ → List ℕ) → Option (List ℕ) → Option (List ℕ)
 text_of text None = None
 text_of text (Some name) = Some (text name)
@@ -55,6 +62,9 @@ unfoldable pub value_fault : List ℕ → List ℕ → Option (List ℕ)
 value_fault name value =
     if str_eq_ignore_ascii_case name (codes "label") then unless (is_utf8 value) (bad_field (codes "label"))
     else if str_eq_ignore_ascii_case name (codes "column_separator") then unless (separates value) (codes "BadSeparator")
+    else if str_eq_ignore_ascii_case name (codes "max_filter_ratio") then unless (is_ratio value) (codes "BadRatio")
+    else if str_eq_ignore_ascii_case name (codes "strict_mode") then unless (is_flag value) (bad_field (codes "strict_mode"))
+    else if str_eq_ignore_ascii_case name (codes "two_phase_commit") then unless (is_flag value) (bad_field (codes "two_phase_commit"))
     else if str_eq_ignore_ascii_case name (codes "format") then unless (str_eq_ignore_ascii_case value (codes "csv")) (unsupported (codes "format"))
     else if str_eq_ignore_ascii_case name (codes "line_delimiter") then unless (bytes_eq value (codes "\\n")) (unsupported (codes "line_delimiter"))
     else text_of unsupported (refused_name name)

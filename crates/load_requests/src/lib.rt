@@ -2,8 +2,11 @@
 #![tactic(auto)]
 
 mod bytes;
+mod end_key;
+mod ends;
 mod load_fields;
 mod names;
+mod numbers;
 mod read;
 mod reading;
 mod request;
@@ -13,5 +16,6 @@ mod target;
 mod token;
 mod values;
 
+pub use end_key::EndKey;
 pub use read::read_request;
 pub use request::Request;

@@ -2,7 +2,7 @@
 ghost use Rattle.std.specs.Prelude.{◌≡◌, ◌≤◌, ◌<◌, ◌++◌, ℕ, List, IfOk, IsTrue, map, take, length, slice_get, option_copied};
 ghost use Rattle.std.specs.List.{list_any};
 ghost use Rattle.http_wire.specs.Fields.{is_named};
-ghost use Rattle.load_requests.specs.LoadFields.{fields_fault, field_fault, value_fault, repeated, single_name, refused_name, separates, named_in, unless};
+ghost use Rattle.load_requests.specs.LoadFields.{fields_fault, field_fault, value_fault, repeated, single_name, refused_name, separates, is_ratio, is_flag, named_in, unless};
 
 use crate::bytes::{is_same, is_utf8};
 use csv_load::Options;
@@ -20,10 +20,7 @@ const SINGLE_NAMES: [&[u8]; 5] = [
 ];
 
 // The fields that no load may have.
-const REFUSED_NAMES: [&[u8]; 22] = [
-    b"max_filter_ratio",
-    b"strict_mode",
-    b"two_phase_commit",
+const REFUSED_NAMES: [&[u8]; 19] = [
     b"columns",
     b"where",
     b"partitions",
@@ -101,6 +98,22 @@ fn separates(value: &[u8]) -> bool
     Options::build(Some(value), None, false).is_ok()
 }
 
+// Whether a value stands for a ratio.
+#[tactic(auto, unfolding(crate::specs::LoadFields::is_ratio))]
+fn is_ratio(value: &[u8]) -> bool
+    ensures { result ≡ is_ratio value.now }
+{
+    Options::build(None, Some(value), false).is_ok()
+}
+
+// Whether a value says yes or no.
+#[tactic(auto, unfolding(crate::specs::LoadFields::is_flag))]
+fn is_flag(value: &[u8]) -> bool
+    ensures { result ≡ is_flag value.now }
+{
+    is_same(value, b"true") || is_same(value, b"false")
+}
+
 // Why a value is not taken, by the field's name.
 #[tactic(auto, unfolding(crate::specs::LoadFields::value_fault))]
 fn value_fault(alloc: Global, name: &[u8], value: &[u8]) -> Result<Option<Text>, NoMemory>
@@ -111,6 +124,15 @@ fn value_fault(alloc: Global, name: &[u8], value: &[u8]) -> Result<Option<Text>,
     }
     if is_same(name, b"column_separator") {
         return unless(alloc, separates(value), b"BadSeparator");
+    }
+    if is_same(name, b"max_filter_ratio") {
+        return unless(alloc, is_ratio(value), b"BadRatio");
+    }
+    if is_same(name, b"strict_mode") {
+        return unless(alloc, is_flag(value), b"BadHeader name=strict_mode");
+    }
+    if is_same(name, b"two_phase_commit") {
+        return unless(alloc, is_flag(value), b"BadHeader name=two_phase_commit");
     }
     if is_same(name, b"format") {
         return unless(alloc, is_same(value, b"csv"), b"Unsupported name=format");

@@ -1,4 +1,5 @@
 // What a request asks for.
+use crate::end_key::EndKey;
 use csv_load::Options;
 use dl_values::{Name, Text};
 use sql_text::PlainDef;
@@ -13,11 +14,23 @@ pub enum Request {
         db: Name,
         table: Name,
         label: Option<Name>,
+        /// It waits for its commit before it becomes visible.
+        two_phase: bool,
         options: Options,
     },
     /// A load with a field at fault: its label, where the head has exactly one and in UTF-8, and the text that says why.
     BadLoad {
         label: Option<Text>,
+        message: Text,
+    },
+    /// The end of a two-phase load of this database: it is to be committed, or else aborted.
+    End {
+        db: Name,
+        key: EndKey,
+        commit: bool,
+    },
+    /// An end with a field that is missing or cannot be read, and the text that says which.
+    BadEnd {
         message: Text,
     },
     CreateDb {

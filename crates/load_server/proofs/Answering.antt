@@ -13,7 +13,7 @@ use Rattle.reply_texts.specs.Texts.{refusal_text}
 use Rattle.shadow_writes.specs.declared.built.Built.{Built}
 use Rattle.shadow_writes.specs.declared.plan.Plan.{Plan}
 use Rattle.load_server.specs.Reports.{failed, refused_load}
-use Rattle.load_server.specs.Scripts.{after_abort, after_begin, after_publish, after_submit, publishing, made}
+use Rattle.load_server.specs.Scripts.{after_abort, after_begin, after_commit, after_publish, after_submit, publishing, made, refused_by}
 use Rattle.load_server.specs.declared.load.Load.{Load}
 
 -- ---- publish turns
@@ -57,6 +57,10 @@ begin_other building load body (reply.Used x y) h k m n = absurd (k x y refl)
 begin_other building load body reply.KeeperFault h k m n = absurd (m refl)
 begin_other building load body reply.NoMemory h k m n = absurd (n refl)
 begin_other building load body _ h k m n = refl
+
+pub commit_other : (at : ℕ) (r : Reply) → ((x y z : ℕ) → r ≡ reply.Committed x y z → ⊥) → after_commit at r ≡ refused_by r
+commit_other at (reply.Committed x y z) h = absurd (h x y z refl)
+commit_other at _ h = refl
 
 -- ---- responses that take memory
 

@@ -1,8 +1,10 @@
 pub mod Responses
 pub mod Reports
+pub mod Ends
 pub mod Building
 pub mod WholeDef
 pub mod Scripts
+pub mod Publishing
 pub mod Preparing
 pub mod Results
 pub mod Exchanges

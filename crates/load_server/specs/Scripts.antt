@@ -1,5 +1,5 @@
 -- What a request asks of the core, command after command, and what is answered (this project's own; loads after the Apache Doris documentation, "Stream Load").
-use Rattle.std.specs.Prelude.{ℕ, zero, suc, ◌+◌, true, false, List, [], Option, Some, None, cond, nat_le, nat_lt, length, map}
+use Rattle.std.specs.Prelude.{ℕ, zero, suc, ◌+◌, Bool, true, false, List, [], Option, Some, None, cond, nat_le, nat_lt, length, map}
 use Rattle.csv_load.specs.Body.{body as parsed_of, records_by}
 use Rattle.csv_load.specs.Limit.{fails}
 use Rattle.csv_load.specs.Refusal.{max_records}
@@ -13,16 +13,20 @@ use Rattle.shadow_writes.specs.declared.built.Built.{Built}
 use Rattle.sql_text.specs.declared.plain_def.PlainDef.{PlainDef}
 use Rattle.sql_text.specs.declared.query.Query.{Query}
 use Rattle.front_defs.specs.declared.command.Command.TheVariants as command
+use Rattle.front_defs.specs.declared.command.TxnKey.{TxnKey}
 use Rattle.front_defs.specs.declared.command.TxnKey.TheVariants as key
 use Rattle.front_defs.specs.declared.reply.Reply.{Reply}
 use Rattle.front_defs.specs.declared.reply.Reply.TheVariants as reply
 use Rattle.front_defs.specs.declared.reply.Placed.{Placed}
 use Rattle.front_defs.specs.Script.{Script, Ends, Asks, Works}
+use Rattle.load_requests.specs.declared.end_key.EndKey.{EndKey}
+use Rattle.load_requests.specs.declared.end_key.EndKey.TheVariants as named
 use Rattle.load_requests.specs.declared.request.Request.{Request}
 use Rattle.load_requests.specs.declared.request.Request.TheVariants as request
 use Rattle.reply_json.specs.Results.{done_json}
 use Rattle.reply_json.specs.Statements.{refused_json}
 use Rattle.reply_texts.specs.Texts.{refusal_text}
+use Rattle.load_server.specs.Ends.{ended, refused_end}
 use Rattle.load_server.specs.Reports.{succeeded, delayed, failed, refused_load, used_load, too_many_rows, too_many_filtered}
 use Rattle.load_server.specs.Responses.{Response, well, not_found, keeper_fault, out_of_memory}
 use Rattle.load_server.specs.Results.{all_json}
@@ -51,7 +55,7 @@ abbrev pub publishing : (good late : Response) → ℕ → ℕ → ℕ → Scrip
 publishing good late at place zero = made good
 publishing good late at place (suc most) = Asks (command.Publish at) (after_publish good late place (publishing good late at place most))
 
--- the publish turns of a load that has this place
+-- the publish turns of a load that has this place; one that waits for its commit has none
 abbrev pub publishing_from : (good late : Response) → ℕ → Option Placed → Script Response
 publishing_from good late at None = made good
 publishing_from good late at (Some p) = publishing good late at p.place (p.ahead + 1)
@@ -102,7 +106,34 @@ after_begin building load body reply.NoMemory = Ends out_of_memory
 after_begin building load body r = made (refused_load load.sent.label (refusal_text r))
 
 abbrev pub loading : (Plan → List (List Cell) → Built) → Load → List ℕ → List ℕ → Script Response
-loading building load table body = or_lacking (Asks (command.Begin load.db table load.sent.label false load.at) (after_begin building load body))
+loading building load table body = or_lacking (Asks (command.Begin load.db table load.sent.label load.two_phase load.at) (after_begin building load body))
+
+-- ---- ends of two-phase loads
+
+-- the transaction that an end names
+abbrev pub key_of : EndKey → TxnKey
+key_of (named.Id id) = key.Id id
+key_of (named.Label label) = key.Label label
+
+-- an end that the core refused
+abbrev pub refused_by : Reply → Script Response
+refused_by reply.KeeperFault = Ends keeper_fault
+refused_by reply.NoMemory = Ends out_of_memory
+refused_by r = made (refused_end (refusal_text r))
+
+-- after a Commit: the publish turns of the load that was committed
+abbrev pub after_commit : ℕ → Reply → Script Response
+after_commit at (reply.Committed txn place ahead) = publishing (ended true true txn) (ended true false txn) at place (ahead + 1)
+after_commit at r = refused_by r
+
+-- after an Abort that was asked for
+abbrev pub after_asked_abort : Reply → Script Response
+after_asked_abort (reply.Aborted txn) = made (ended false false txn)
+after_asked_abort r = refused_by r
+
+abbrev pub ending : List ℕ → TxnKey → Bool → ℕ → Script Response
+ending db txn true at = Asks (command.Commit db txn at) (after_commit at)
+ending db txn false at = Asks (command.Abort db txn at) after_asked_abort
 
 -- ---- statements
 
@@ -138,8 +169,10 @@ selecting db table = or_lacking (Asks (command.Snapshot db table (all_of table))
 -- the script of a request with this body, which came at this moment
 abbrev pub script_of : (Plan → List (List Cell) → Built) → ℕ → List ℕ → Request → Script Response
 script_of building at body request.Unknown = Ends not_found
-script_of building at body (request.Load db table label options) = loading building (record { db = db; sent = record { label = label; bytes = length body }; options = options; at = at }) table body
+script_of building at body (request.Load db table label two_phase options) = loading building (record { db = db; sent = record { label = label; bytes = length body }; two_phase = two_phase; options = options; at = at }) table body
 script_of building at body (request.BadLoad label message) = made (refused_load label message)
+script_of building at body (request.End db key commit) = ending db (key_of key) commit at
+script_of building at body (request.BadEnd message) = made (refused_end message)
 script_of building at body (request.CreateDb name) = Asks (command.CreateDb name false) after_create
 script_of building at body (request.CreateTable db table def) = creating db table def
 script_of building at body (request.Select db table) = selecting db table

@@ -6,6 +6,8 @@
 mod abort;
 mod answer;
 mod build;
+mod end_report;
+mod ending;
 mod exchange;
 mod load;
 mod loading;

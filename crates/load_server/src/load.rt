@@ -8,6 +8,8 @@ use dl_values::Name;
 pub struct Load {
     pub db: Name,
     pub sent: Sent,
+    /// It waits for its commit before it becomes visible.
+    pub two_phase: bool,
     pub options: Options,
     /// The moment at which it came, in seconds.
     pub at: u64,

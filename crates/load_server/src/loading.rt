@@ -1,5 +1,5 @@
 // The turns of a load.
-ghost use Rattle.std.specs.Prelude.{◌≡◌, IfOk, List, false};
+ghost use Rattle.std.specs.Prelude.{◌≡◌, IfOk, List};
 ghost use Rattle.front_defs.specs.declared.command.Command.{Command};
 ghost use Rattle.front_defs.specs.declared.history.Entry.{Entry};
 ghost use Rattle.front_defs.specs.declared.reply.Reply.TheVariants as reply;
@@ -78,21 +78,30 @@ fn begin<T: Turns, L: Ledger>(
 ) -> Answer
     requires db { copies.db ≡ load.db }
     requires label { copies.label ≡ load.sent.label }
-    ensures { (seen own : List Entry) → T.stands turns.old seen own → AnsweredBy (T.stands turns.new) seen own (λ building. Asks (command.Begin load.db table load.sent.label false load.at) (after_begin building load body.items)) (response_of result) }
+    ensures { (seen own : List Entry) → T.stands turns.old seen own → AnsweredBy (T.stands turns.new) seen own (λ building. Asks (command.Begin load.db table load.sent.label load.two_phase load.at) (after_begin building load body.items)) (response_of result) }
 {
-    let command = Command::Begin {
-        db: copies.db,
-        table,
-        label: copies.label,
-        two_phase: false,
-        at: load.at,
-    };
+    let command = begin_command(&load, copies, table);
     match turns.turn(command, steps) {
         Reply::Begun { txn, plan } => proceed(alloc, turns, load, txn, plan, body, steps),
         Reply::Used { txn, state } => used_load(alloc, &load.sent.label, txn, state),
         Reply::KeeperFault => Answer::KeeperFault,
         Reply::NoMemory => Answer::OutOfMemory,
         other => refused_by(alloc, &load.sent.label, &other),
+    }
+}
+
+// The command that begins the load.
+fn begin_command(load: &Load, copies: Copies, table: Name) -> Command
+    requires db { copies.db ≡ load.now.db }
+    requires label { copies.label ≡ load.now.sent.label }
+    ensures { result ≡ command.Begin load.now.db table load.now.sent.label load.now.two_phase load.now.at }
+{
+    Command::Begin {
+        db: copies.db,
+        table,
+        label: copies.label,
+        two_phase: load.two_phase,
+        at: load.at,
     }
 }
 

@@ -1,9 +1,10 @@
 // The publish turns of a load.
-ghost use Rattle.std.specs.Prelude.{◌≡◌, ◌+◌, List, Option, Some};
+ghost use Rattle.std.specs.Prelude.{◌+◌, List, [], Option};
 ghost use Rattle.front_defs.specs.declared.history.Entry.{Entry};
-ghost use Rattle.front_defs.specs.Script.{Answered};
+ghost use Rattle.front_defs.specs.Script.{Answered, Served};
+ghost use Rattle.load_server.specs.Publishing.{after_publishing};
 ghost use Rattle.load_server.specs.Reports.{succeeded, delayed};
-ghost use Rattle.load_server.specs.Responses.{response_of};
+ghost use Rattle.load_server.specs.Responses.{Response, response_of};
 ghost use Rattle.load_server.specs.Scripts.{publishing, publishing_from};
 
 use crate::answer::Answer;
@@ -30,39 +31,57 @@ pub fn publish_from<T: Turns, L: Ledger>(
     match placed {
         None => succeeded(alloc, sent, txn, counts),
         Some(Placed { place, ahead }) => {
-            publish(alloc, turns, sent, at, txn, counts, place, ahead, steps)
+            let outcome = publish(turns, at, place, ahead, steps);
+            published(alloc, sent, txn, counts, outcome)
         }
     }
 }
 
-// Publishes until that place is reached: at most once, and once more for each load that was ahead.
-fn publish<T: Turns, L: Ledger>(
-    alloc: Global,
+// What is answered for a load after its publish turns.
+fn published(alloc: Global, sent: &Sent, txn: u64, counts: Counts, outcome: Outcome) -> Answer
+    ensures { Served (after_publishing (succeeded sent.now txn counts.filtered counts.total) (delayed sent.now txn counts.filtered counts.total) outcome) [] (response_of result) }
+{
+    match outcome {
+        Outcome::Visible => succeeded(alloc, sent, txn, counts),
+        Outcome::Late => delayed(alloc, sent, txn, counts),
+        Outcome::NoMemory => Answer::OutOfMemory,
+    }
+}
+
+/// How the publish turns of a load ended.
+#[derive(Clone, Copy, Debug, PartialEq, Eq)]
+pub enum Outcome {
+    /// The load is visible.
+    Visible,
+    /// A fault came before that: it is committed, and will be published later.
+    Late,
+    NoMemory,
+}
+
+/// Publishes until the load is visible that has this place: at most once, and once more for each load that was ahead.
+pub fn publish<T: Turns, L: Ledger>(
     turns: &mut T,
-    sent: &Sent,
     at: u64,
-    txn: u64,
-    counts: Counts,
     place: u64,
     ahead: u64,
     steps: &mut Steps<L>,
-) -> Answer
-    ensures { (seen own : List Entry) → T.stands turns.old seen own → Answered (T.stands turns.new) seen own (publishing (succeeded sent.now txn counts.filtered counts.total) (delayed sent.now txn counts.filtered counts.total) at place (ahead + 1)) (response_of result) }
+) -> Outcome
+    ensures { (good late response : Response) → Served (after_publishing good late result) [] response → (seen own : List Entry) → T.stands turns.old seen own → Answered (T.stands turns.new) seen own (publishing good late at place (ahead + 1)) response }
 {
     let mut more = ahead;
     loop {
         match turns.turn(Command::Publish { at }, steps) {
             Reply::Published { place: reached, .. } => {
                 if place <= reached {
-                    return succeeded(alloc, sent, txn, counts);
+                    return Outcome::Visible;
                 }
             }
-            Reply::NothingToPublish => return succeeded(alloc, sent, txn, counts),
-            Reply::NoMemory => return Answer::OutOfMemory,
-            _ => return delayed(alloc, sent, txn, counts),
+            Reply::NothingToPublish => return Outcome::Visible,
+            Reply::NoMemory => return Outcome::NoMemory,
+            _ => return Outcome::Late,
         }
         if more == 0 {
-            return succeeded(alloc, sent, txn, counts);
+            return Outcome::Visible;
         }
         more -= 1;
     }

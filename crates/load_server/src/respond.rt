@@ -6,6 +6,8 @@ ghost use Rattle.load_server.specs.Responses.{response_of};
 ghost use Rattle.load_server.specs.Scripts.{script_of};
 
 use crate::answer::Answer;
+use crate::end_report::refused_end;
+use crate::ending::{end, txn_key};
 use crate::load::Load;
 use crate::loading::load;
 use crate::report::refused_load;
@@ -53,6 +55,7 @@ fn serve<T: Turns, L: Ledger>(
             db,
             table,
             label,
+            two_phase,
             options,
         } => {
             let bytes = body.len() as u64;
@@ -60,12 +63,17 @@ fn serve<T: Turns, L: Ledger>(
             let asked = Load {
                 db,
                 sent,
+                two_phase,
                 options,
                 at,
             };
             load(alloc, turns, asked, table, body, steps)
         }
         Request::BadLoad { label, message } => refused_load(alloc, label, message),
+        Request::End { db, key, commit } => {
+            end(alloc, turns, db, txn_key(key), commit, at, steps)
+        }
+        Request::BadEnd { message } => refused_end(alloc, message),
         Request::CreateDb { name } => create_db(alloc, turns, name, steps),
         Request::CreateTable { db, table, def } => {
             create_table(alloc, turns, db, table, def, steps)

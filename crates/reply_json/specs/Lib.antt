@@ -1,4 +1,5 @@
 pub mod Texts
 pub mod Loads
+pub mod Ends
 pub mod Results
 pub mod Statements

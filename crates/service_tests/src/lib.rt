@@ -4,8 +4,6 @@
 #[cfg(test)]
 mod answers;
 #[cfg(test)]
-mod fronts;
-#[cfg(test)]
 mod runs;
 #[cfg(test)]
 mod sessions;

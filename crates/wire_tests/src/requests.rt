@@ -1,4 +1,5 @@
 // Requests as tables: what is sent, and what is asked for.
+mod ends;
 mod loads;
 mod shown;
 mod statements;

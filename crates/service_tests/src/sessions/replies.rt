@@ -20,7 +20,8 @@ use std::marker::Brand;
 use std::sync::Arc;
 use std::sync::ledger::{Blank, Ledger};
 
-/// A reply of the core in short: the numbers are those of a transaction, its place, and the loads ahead of it.
+/// A reply of the core in short: the numbers are those of a transaction, its place, and the loads ahead of it. A load of two
+/// phases waits.
 #[derive(Clone, Copy)]
 pub enum Told {
     Done,
@@ -28,6 +29,9 @@ pub enum Told {
     UnknownTable,
     Begun(u64),
     Submitted(u64, u64),
+    Waits,
+    Committed(u64, u64, u64),
+    WrongState,
     Published(u64, u64),
     Nothing,
     Aborted(u64),
@@ -80,6 +84,11 @@ fn reply_of(alloc: Global, told: Told) -> Reply
         Told::Begun(txn) => begun(alloc, txn),
         Told::Submitted(place, ahead) => Reply::Submitted {
             placed: Some(Placed { place, ahead }),
+        },
+        Told::Waits => Reply::Submitted { placed: None },
+        Told::Committed(txn, place, ahead) => Reply::Committed { txn, place, ahead },
+        Told::WrongState => Reply::WrongState {
+            state: TxnState::Visible,
         },
         Told::Published(txn, place) => Reply::Published { txn, place },
         Told::Nothing => Reply::NothingToPublish,
@@ -178,14 +187,19 @@ fn rows_of(alloc: Global, of: &[(i64, i64)]) -> Result<Rows, NoMemory> {
     Ok(rows)
 }
 
-// D and T for the statements that make a database and a table, Q for a query.
+// D and T for the statements that make a database and a table, Q for a query, 2 for the begin of a load of two phases.
 fn letter_of(command: &Command) -> u8 {
     match command {
         Command::CreateDb { .. } => b'D',
         Command::CreateTable { .. } => b'T',
+        Command::Begin {
+            two_phase: true,
+            ..
+        } => b'2',
         Command::Begin { .. } => b'B',
         Command::Submit { .. } => b'S',
         Command::Publish { .. } => b'P',
+        Command::Commit { .. } => b'C',
         Command::Abort { .. } => b'A',
         Command::Snapshot { .. } => b'Q',
         // A session asks nothing else.

@@ -101,6 +101,54 @@ const LOADS: &[Case] = &[
         asked: b"BS",
         written: &[CONTINUE, KEEPER_FAULT],
     },
+    // A load of two phases has no publish turns before its commit,
+    Case {
+        sent: TWO_PHASES,
+        told: &[Told::Begun(4), Told::Waits],
+        asked: b"2S",
+        written: &[WAITING],
+    },
+    // which has those of the load.
+    Case {
+        sent: COMMIT,
+        told: &[
+            Told::Committed(4, 3, 1),
+            Told::Published(1, 2),
+            Told::Published(4, 3),
+        ],
+        asked: b"CPP",
+        written: &[COMMITTED],
+    },
+    Case {
+        sent: COMMIT,
+        told: &[Told::Committed(4, 3, 1), Told::Fault],
+        asked: b"CP",
+        written: &[COMMITTED_LATE],
+    },
+    Case {
+        sent: COMMIT,
+        told: &[Told::WrongState],
+        asked: b"C",
+        written: &[WRONG_STATE],
+    },
+    Case {
+        sent: COMMIT,
+        told: &[Told::Fault],
+        asked: b"C",
+        written: &[KEEPER_FAULT],
+    },
+    Case {
+        sent: ABORT,
+        told: &[Told::Aborted(4)],
+        asked: b"A",
+        written: &[ABORTED],
+    },
+    Case {
+        sent: BAD_END,
+        told: &[],
+        asked: b"",
+        written: &[NO_KEY],
+    },
 ];
 
 fn loads() -> &'static [Case] {

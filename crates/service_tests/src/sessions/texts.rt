@@ -71,3 +71,32 @@ pub const BAD_HEAD: &[u8] =
 pub const STRAY: &[u8] = b"PUT /api/d/t/_stream_load HTTP/1.1\r\nContent-Length: 4\r\n\r\n1,5\n";
 
 pub const GET: &[u8] = b"GET /x HTTP/1.1\r\nHost: h\r\n\r\n";
+
+pub const TWO_PHASES: &[u8] =
+    b"PUT /api/d/t/_stream_load HTTP/1.1\r\nlabel: c\r\ncolumn_separator: ,\r\ntwo_phase_commit: true\r\nContent-Length: 4\r\n\r\n1,5\n";
+
+pub const WAITING: &[u8] =
+    b"HTTP/1.1 200 OK\r\nContent-Type: application/json\r\nContent-Length: 135\r\n\r\n{\"Label\":\"c\",\"LoadBytes\":4,\"Message\":\"OK\",\"NumberFilteredRows\":0,\"NumberLoadedRows\":1,\"NumberTotalRows\":1,\"Status\":\"Success\",\"TxnId\":4}";
+
+pub const COMMIT: &[u8] =
+    b"PUT /api/d/_stream_load_2pc HTTP/1.1\r\ntxn_id: 4\r\ntxn_operation: commit\r\n\r\n";
+
+pub const COMMITTED: &[u8] =
+    b"HTTP/1.1 200 OK\r\nContent-Type: application/json\r\nContent-Length: 65\r\n\r\n{\"msg\":\"transaction [4] commit successfully.\",\"status\":\"Success\"}";
+
+pub const COMMITTED_LATE: &[u8] =
+    b"HTTP/1.1 200 OK\r\nContent-Type: application/json\r\nContent-Length: 73\r\n\r\n{\"msg\":\"transaction [4] commit successfully.\",\"status\":\"Publish Timeout\"}";
+
+pub const ABORT: &[u8] =
+    b"PUT /api/d/t/_stream_load_2pc HTTP/1.1\r\nlabel: c\r\ntxn_operation: abort\r\n\r\n";
+
+pub const ABORTED: &[u8] =
+    b"HTTP/1.1 200 OK\r\nContent-Type: application/json\r\nContent-Length: 64\r\n\r\n{\"msg\":\"transaction [4] abort successfully.\",\"status\":\"Success\"}";
+
+pub const WRONG_STATE: &[u8] =
+    b"HTTP/1.1 200 OK\r\nContent-Type: application/json\r\nContent-Length: 50\r\n\r\n{\"msg\":\"WrongState state=VISIBLE\",\"status\":\"Fail\"}";
+
+pub const BAD_END: &[u8] = b"PUT /api/d/_stream_load_2pc HTTP/1.1\r\n\r\n";
+
+pub const NO_KEY: &[u8] =
+    b"HTTP/1.1 200 OK\r\nContent-Type: application/json\r\nContent-Length: 47\r\n\r\n{\"msg\":\"BadHeader name=txn_id\",\"status\":\"Fail\"}";

@@ -59,6 +59,49 @@ fn a_label_and_a_separator_are_read(rt: HostRuntime) -> Result<(), Fail> {
     are_asked(&rt, rt.alloc(), labels())
 }
 
+const VALUES: &[Load] = &[
+    (b"max_filter_ratio: 0\r\n", b"load d t cut \t"),
+    (b"max_filter_ratio: 0.25\r\n", b"load d t cut \t ratio 2500"),
+    (b"Max_Filter_Ratio: 0.0001\r\n", b"load d t cut \t ratio 1"),
+    (
+        b"max_filter_ratio: 1.0000\r\n",
+        b"load d t cut \t ratio 10000",
+    ),
+    (b"strict_mode: TRUE\r\n", b"load d t cut \t strict"),
+    (b"strict_mode: False\r\n", b"load d t cut \t"),
+    (b"Two_Phase_Commit: True\r\n", b"load d t cut \t two-phase"),
+    (b"two_phase_commit: false\r\n", b"load d t cut \t"),
+    (
+        b"two_phase_commit: true\r\nstrict_mode: true\r\nmax_filter_ratio: 1\r\nlabel: a\r\n",
+        b"load d t label a cut \t ratio 10000 strict two-phase",
+    ),
+    (b"max_filter_ratio: 1.00005\r\n", b"bad load: BadRatio"),
+    (b"max_filter_ratio: 1.0001\r\n", b"bad load: BadRatio"),
+    (b"max_filter_ratio: 0.\r\n", b"bad load: BadRatio"),
+    (b"max_filter_ratio: .5\r\n", b"bad load: BadRatio"),
+    (b"max_filter_ratio: 00\r\n", b"bad load: BadRatio"),
+    (b"max_filter_ratio: 0,5\r\n", b"bad load: BadRatio"),
+    (b"max_filter_ratio:\r\n", b"bad load: BadRatio"),
+    (
+        b"strict_mode: 1\r\n",
+        b"bad load: BadHeader name=strict_mode",
+    ),
+    (b"strict_mode:\r\n", b"bad load: BadHeader name=strict_mode"),
+    (
+        b"two_phase_commit: yes\r\n",
+        b"bad load: BadHeader name=two_phase_commit",
+    ),
+];
+
+fn values() -> &'static [Load] {
+    VALUES
+}
+
+#[test]
+fn a_ratio_a_mode_and_the_phases_are_read(rt: HostRuntime) -> Result<(), Fail> {
+    are_asked(&rt, rt.alloc(), values())
+}
+
 const FAULTS: &[Load] = &[
     (
         b"label: a\r\nlabel: a\r\n",
@@ -101,12 +144,24 @@ const FAULTS: &[Load] = &[
         b"bad load: Unsupported name=line_delimiter label a",
     ),
     (
-        b"max_filter_ratio: 0\r\nstrict_mode: false\r\n",
-        b"bad load: Unsupported name=max_filter_ratio",
+        b"strict_mode: x\r\nmax_filter_ratio: 2\r\n",
+        b"bad load: BadHeader name=strict_mode",
     ),
     (
-        b"label: a\r\nTwo_Phase_Commit: false\r\n",
-        b"bad load: Unsupported name=two_phase_commit label a",
+        b"max_filter_ratio: 2\r\nstrict_mode: x\r\n",
+        b"bad load: BadRatio",
+    ),
+    (
+        b"max_filter_ratio: 0.1\r\nMax_Filter_Ratio: 2\r\n",
+        b"bad load: BadHeader name=max_filter_ratio",
+    ),
+    (
+        b"strict_mode: true\r\nstrict_mode: true\r\n",
+        b"bad load: BadHeader name=strict_mode",
+    ),
+    (
+        b"label: a\r\ntwo_phase_commit: false\r\ntwo_phase_commit: x\r\n",
+        b"bad load: BadHeader name=two_phase_commit label a",
     ),
 ];
 
@@ -139,9 +194,6 @@ const NAMES: &[&[u8]] = &[
     b"hidden_columns",
     b"partial_columns",
     b"function_column.sequence_col",
-    b"max_filter_ratio",
-    b"strict_mode",
-    b"two_phase_commit",
 ];
 
 fn names() -> &'static [&'static [u8]] {

@@ -1,8 +1,10 @@
 // A request as it is sent, and what it asks for as a line of text.
+use csv_load::Options;
 use dl_outside::MemorySource;
 use dl_values::{ColType, Name, NoMemory};
 use http_wire::HttpReader;
-use load_requests::{Request, read_request};
+use itoa::Buffer;
+use load_requests::{EndKey, Request, read_request};
 use sql_text::PlainDef;
 use std::alloc::Global;
 use std::test::Fail;
@@ -38,14 +40,46 @@ fn add_table(line: &mut Vec<u8>, def: &PlainDef) -> Result<(), NoMemory> {
     add_names(line, def.hash.as_slice())
 }
 
-fn add_load(line: &mut Vec<u8>, label: &Option<Name>, separator: u8) -> Result<(), NoMemory> {
+fn add_number(line: &mut Vec<u8>, number: u64) -> Result<(), NoMemory> {
+    add(line, &[Buffer::new().format(number).as_bytes()])
+}
+
+fn add_options(line: &mut Vec<u8>, options: &Options) -> Result<(), NoMemory> {
+    add(line, &[b" cut "])?;
+    line.push(options.separator)?;
+    if options.ratio != 0 {
+        add(line, &[b" ratio "])?;
+        add_number(line, options.ratio)?;
+    }
+    let mode: &[u8] = if options.strict { b" strict" } else { b"" };
+    add(line, &[mode])
+}
+
+fn add_load(
+    line: &mut Vec<u8>,
+    label: &Option<Name>,
+    two_phase: bool,
+    options: &Options,
+) -> Result<(), NoMemory> {
     match label {
         None => {}
         Some(label) => add(line, &[b" label ", label.bytes()])?,
     }
-    add(line, &[b" cut "])?;
-    line.push(separator)?;
-    Ok(())
+    add_options(line, options)?;
+    let phases: &[u8] = if two_phase { b" two-phase" } else { b"" };
+    add(line, &[phases])
+}
+
+fn add_end(line: &mut Vec<u8>, db: &Name, key: &EndKey, commit: bool) -> Result<(), NoMemory> {
+    let verb: &[u8] = if commit { b"commit " } else { b"abort " };
+    add(line, &[verb, db.bytes()])?;
+    match key {
+        EndKey::Id(id) => {
+            add(line, &[b" "])?;
+            add_number(line, *id)
+        }
+        EndKey::Label(label) => add(line, &[b" label ", label.bytes()]),
+    }
 }
 
 fn add_request(line: &mut Vec<u8>, request: &Request) -> Result<(), NoMemory> {
@@ -55,10 +89,11 @@ fn add_request(line: &mut Vec<u8>, request: &Request) -> Result<(), NoMemory> {
             db,
             table,
             label,
+            two_phase,
             options,
         } => {
             add(line, &[b"load ", db.bytes(), b" ", table.bytes()])?;
-            add_load(line, label, options.separator)
+            add_load(line, label, *two_phase, options)
         }
         Request::BadLoad { label, message } => {
             add(line, &[b"bad load: ", message.bytes()])?;
@@ -67,6 +102,8 @@ fn add_request(line: &mut Vec<u8>, request: &Request) -> Result<(), NoMemory> {
                 Some(label) => add(line, &[b" label ", label.bytes()]),
             }
         }
+        Request::End { db, key, commit } => add_end(line, db, key, *commit),
+        Request::BadEnd { message } => add(line, &[b"bad end: ", message.bytes()]),
         Request::CreateDb { name } => add(line, &[b"database ", name.bytes()]),
         Request::CreateTable { db, table, def } => {
             add(line, &[b"table ", db.bytes(), b" ", table.bytes()])?;

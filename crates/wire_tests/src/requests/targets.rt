@@ -20,6 +20,19 @@ const TARGETS: &[(&str, &str)] = &[
     ("PUT /api//t/_stream_load", "unknown"),
     ("PUT /api/d//_stream_load", "unknown"),
     ("PUT /api/d/_stream_load", "unknown"),
+    (
+        "PUT /api/d/_stream_load_2pc",
+        "bad end: BadHeader name=txn_id",
+    ),
+    (
+        "PUT /api/d/t/_stream_load_2pc?x",
+        "bad end: BadHeader name=txn_id",
+    ),
+    ("PUT /api//_stream_load_2pc", "unknown"),
+    ("PUT /api//t/_stream_load_2pc", "unknown"),
+    ("PUT /api/d//_stream_load_2pc", "unknown"),
+    ("PUT /api/d/t/x/_stream_load_2pc", "unknown"),
+    ("POST /api/d/_stream_load_2pc", "unknown"),
     ("PUT /", "unknown"),
     ("PUT ?", "unknown"),
     ("POST /api/query/internal/d", "bad statement: BadJson"),
@@ -39,7 +52,7 @@ fn asked_by(alloc: Global, line: &str) -> Result<Vec<u8>, Fail> {
 }
 
 #[test]
-fn a_target_is_served_by_its_method_and_its_five_parts(rt: HostRuntime) -> Result<(), Fail> {
+fn a_target_is_served_by_its_method_and_its_parts(rt: HostRuntime) -> Result<(), Fail> {
     for (line, wanted) in targets() {
         let found = asked_by(rt.alloc(), line)?;
         assert_eq!(rt; found.as_slice(), wanted.as_bytes());

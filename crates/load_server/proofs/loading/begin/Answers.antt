@@ -1,5 +1,5 @@
-use Rattle.std.proofs.Common.{◌≡◌, ◌∙◌, refl, sym, ap, subst, inl, List, ℕ, Option, false, ◌∷◌}
-use Rattle.front_defs.specs.declared.command.Command.TheVariants as command
+use Rattle.std.proofs.Common.{◌≡◌, ◌∙◌, refl, sym, ap, subst, inl, List, ℕ, ◌∷◌}
+use Rattle.front_defs.specs.declared.command.Command.{Command}
 use Rattle.front_defs.specs.declared.history.Entry.{Entry}
 use Rattle.front_defs.specs.declared.history.Entry.TheVariants.{Made}
 use Rattle.front_defs.specs.declared.reply.Reply.{Reply}
@@ -9,10 +9,12 @@ use Rattle.load_server.proofs.Going.{Turn, answered_now, by_any, by_as, by_asks}
 use Rattle.load_server.proofs.Answering.{begin_other}
 use Rattle.load_server.proofs.loading.begin.Goals as goal
 
--- the command with copies of the name and the label is that with the name and the label
-same_turn : {n m : ℕ} (old new : List Entry → List Entry → Type 0) (db db_copy table : List ℕ) (label label_copy : Option (List ℕ)) (at : ℕ) (r : Reply) → db_copy ≡ db → label_copy ≡ label → Turn old new n m (command.Begin db_copy table label_copy false at) r → Turn old new n m (command.Begin db table label false at) r
-same_turn {n} {m} old new db db_copy table label label_copy at r e f turn =
-    subst (λ (d : List ℕ). Turn old new n m (command.Begin d table label false at) r) e (subst (λ (l : Option (List ℕ)). Turn old new n m (command.Begin db_copy table l false at) r) f turn)
+-- the turn, by what its command is
+turn_of : {n m : ℕ} (old new : List Entry → List Entry → Type 0) (made asked : Command) (r : Reply) → made ≡ asked → Turn old new n m made r → Turn old new n m asked r
+turn_of {n} {m} old new made asked r e turn = subst (λ (x : Command). Turn old new n m x r) e turn
+
+pub turn-requires : goal.turn-requires
+turn-requires g c = λ b. absurd (rw c.begin_command-command.ensures at b)
 
 pub proceed-requires : goal.proceed-requires
 proceed-requires g c = λ next b h. c.turn.ensures.follows next b (rw c.in-Begun.is h)
@@ -20,34 +22,34 @@ proceed-requires g c = λ next b h. c.turn.ensures.follows next b (rw c.in-Begun
 pub returns-in-Begun : goal.returns-in-Begun
 returns-in-Begun g c = λ seen own s.
     by_asks _ _ _ seen own _ (λ b. after_begin b c.args.load c.args.body.items) c.turn.result _
-    (same_turn _ _ _ _ c.args.table _ _ c.args.load.at c.turn.result c.requires.db c.requires.label c.turn.ensures.turned) s tt
+    (turn_of _ _ _ _ c.turn.result c.begin_command-command.ensures c.turn.ensures.turned) s tt
     (λ z call e st. by_as _ z (Made call ∷ own) _ _ _ (λ b. ap (after_begin b c.args.load c.args.body.items) c.in-Begun.is)
     (c.proceed.ensures z (Made call ∷ own) st (λ next h. inl (subst (λ (x : Reply). Carries next x) (sym (e ∙ c.in-Begun.is)) h))))
 
 pub returns-in-Used : goal.returns-in-Used
 returns-in-Used g c = λ seen own s.
     by_asks _ _ _ seen own _ (λ b. after_begin b c.args.load c.args.body.items) c.turn.result _
-    (same_turn _ _ _ _ c.args.table _ _ c.args.load.at c.turn.result c.requires.db c.requires.label c.turn.ensures.turned) s tt
+    (turn_of _ _ _ _ c.turn.result c.begin_command-command.ensures c.turn.ensures.turned) s tt
     (λ z call e st. by_as _ z (Made call ∷ own) _ _ _ (λ b. ap (after_begin b c.args.load c.args.body.items) c.in-Used.is)
     (by_any _ z (Made call ∷ own) _ _ (answered_now _ z (Made call ∷ own) _ _ st c.used_load.ensures)))
 
 pub returns-in-KeeperFault : goal.returns-in-KeeperFault
 returns-in-KeeperFault g c = λ seen own s.
     by_asks _ _ _ seen own _ (λ b. after_begin b c.args.load c.args.body.items) c.turn.result _
-    (same_turn _ _ _ _ c.args.table _ _ c.args.load.at c.turn.result c.requires.db c.requires.label c.turn.ensures.turned) s tt
+    (turn_of _ _ _ _ c.turn.result c.begin_command-command.ensures c.turn.ensures.turned) s tt
     (λ z call e st. by_as _ z (Made call ∷ own) _ _ _ (λ b. ap (after_begin b c.args.load c.args.body.items) c.in-KeeperFault.is)
     (by_any _ z (Made call ∷ own) _ _ (answered_now _ z (Made call ∷ own) _ _ st (refl, refl))))
 
 pub returns-in-NoMemory : goal.returns-in-NoMemory
 returns-in-NoMemory g c = λ seen own s.
     by_asks _ _ _ seen own _ (λ b. after_begin b c.args.load c.args.body.items) c.turn.result _
-    (same_turn _ _ _ _ c.args.table _ _ c.args.load.at c.turn.result c.requires.db c.requires.label c.turn.ensures.turned) s tt
+    (turn_of _ _ _ _ c.turn.result c.begin_command-command.ensures c.turn.ensures.turned) s tt
     (λ z call e st. by_as _ z (Made call ∷ own) _ _ _ (λ b. ap (after_begin b c.args.load c.args.body.items) c.in-NoMemory.is)
     (by_any _ z (Made call ∷ own) _ _ (answered_now _ z (Made call ∷ own) _ _ st (refl, refl))))
 
 pub returns-in_default : goal.returns-in_default
 returns-in_default g c = λ seen own s.
     by_asks _ _ _ seen own _ (λ b. after_begin b c.args.load c.args.body.items) c.turn.result _
-    (same_turn _ _ _ _ c.args.table _ _ c.args.load.at c.turn.result c.requires.db c.requires.label c.turn.ensures.turned) s tt
+    (turn_of _ _ _ _ c.turn.result c.begin_command-command.ensures c.turn.ensures.turned) s tt
     (λ z call e st. by_as _ z (Made call ∷ own) _ _ _ (λ b. begin_other b c.args.load c.args.body.items c.turn.result c.in_default.not-Begun c.in_default.not-Used c.in_default.not-KeeperFault c.in_default.not-NoMemory)
     (by_any _ z (Made call ∷ own) _ _ (answered_now _ z (Made call ∷ own) _ _ st c.refused_by.ensures)))
