@@ -1,0 +1,4 @@
+pub mod Building
+pub mod PartLists
+pub mod Spreading
+pub mod Folding
