@@ -10,6 +10,7 @@ use Rattle.journal_records.specs.Fitting.{Fits}
 use Rattle.journal_core.specs.declared.error.JournalError.{JournalError}
 use Rattle.journal_core.specs.declared.error.JournalError.TheVariants as journal
 use Rattle.journal_core.specs.Journal.{AllFit, FirstBad, NoRecord, Reads, Replays}
+use Rattle.journal_core.specs.Causes.{IsFirstBad, ReadHasCause, ReplayHasCause}
 
 -- these records were read, and the place is behind them
 pub record IsFront (records : List (List ℕ)) (found : List Record) (place : ℕ) : Type 0 where
@@ -23,9 +24,18 @@ ReadSoFar old None found place = Unit {0}
 ReadSoFar None (Some now) found place = ⊥
 ReadSoFar (Some before) (Some now) found place = (now ≡ before) × IsFront now found place
 
-pub begins : (r : Records) → ReadSoFar r r [] 0
-begins None = tt
-begins (Some rs) = (refl, record { rest = rs; parts = refl; count = refl; fit = tt })
+-- whatever is told
+pub record SoFar (old now : Records) (found : List Record) (place : ℕ) : Type 0 where
+  pub count : place ≡ length found
+  pub fit : AllFit found
+  pub told : ReadSoFar old now found place
+
+at_first : (r : Records) → ReadSoFar r r [] 0
+at_first None = tt
+at_first (Some rs) = (refl, record { rest = rs; parts = refl; count = refl; fit = tt })
+
+pub begins : (r : Records) → SoFar r r [] 0
+begins r = record { count = refl; fit = tt; told = at_first r }
 
 -- ---- one record more
 
@@ -55,13 +65,20 @@ one_more records found place told f one e = go f.rest f.parts (sym (next records
           fit = fit_more found told f.fit one;
         }
 
-pub goes_on : (old mid new : Records) (found : List Record) (place : ℕ) (told : Record) → ReadSoFar old mid found place → Reads mid place new (Ok (Some told)) → ReadSoFar old new (found ++ told ∷ []) (place + 1)
-goes_on old mid None found place told so r = tt
-goes_on old None (Some now) found place told so r = absurd r
-goes_on None (Some m) (Some now) found place told so r = absurd so
-goes_on (Some before) (Some m) (Some now) found place told so r =
+told_on : (old mid new : Records) (found : List Record) (place : ℕ) (told : Record) → ReadSoFar old mid found place → Reads mid place new (Ok (Some told)) → ReadSoFar old new (found ++ told ∷ []) (place + 1)
+told_on old mid None found place told so r = tt
+told_on old None (Some now) found place told so r = absurd r
+told_on None (Some m) (Some now) found place told so r = absurd so
+told_on (Some before) (Some m) (Some now) found place told so r =
     let f : IsFront now found place = subst (λ (l : List (List ℕ)). IsFront l found place) (sym r.0) so.1 in
     (r.0 ∙ so.0, one_more now found place told f r.1.0 r.1.1)
+
+pub goes_on : (old mid new : Records) (found : List Record) (place : ℕ) (told : Record) → SoFar old mid found place → Reads mid place new (Ok (Some told)) → Fits told → SoFar old new (found ++ told ∷ []) (place + 1)
+goes_on old mid new found place told so r one = record {
+  count = omega (arith, length-append found (told ∷ []), so.count);
+  fit = fit_more found told so.fit one;
+  told = told_on old mid new found place told so.told r;
+}
 
 -- ---- the end
 
@@ -112,3 +129,16 @@ pub one_too_many : (old mid new : Records) (place : ℕ) (told : Record) (seq : 
 one_too_many old mid None place told seq few far r = tt
 one_too_many old None (Some now) place told seq few far r = absurd r
 one_too_many old (Some m) (Some now) place told seq few far r = absurd (omega (arith, few now refl, slice_get_within now place (spelling told) r.1.1))
+
+-- ---- why it was not read
+
+pub first_of : (old new : Records) (seq : ℕ) → Replays old new (Err (journal.BadJournal seq)) → IsFirstBad new seq
+first_of old None seq r = tt
+first_of None (Some now) seq r = absurd r
+first_of (Some before) (Some now) seq r = r.1
+
+pub has_cause : (old new : Records) (place before mid now : ℕ) (e : JournalError) → place < 2 ^ 63 → before ≤ mid → ReadHasCause place mid now (Err e) → Replays old new (Err e) → ReplayHasCause new before now (Err e)
+has_cause old new place before mid now journal.KeeperFault lt le c r = omega (arith, le, c)
+has_cause old new place before mid now (journal.BadJournal seq) lt le c r = (omega (arith, c), omega (arith, c, lt), first_of old new seq r)
+has_cause old new place before mid now journal.TooLong lt le c r = absurd c
+has_cause old new place before mid now journal.NoMemory lt le c r = tt

@@ -1,12 +1,14 @@
 -- When each answer of a journal may come (this project's own). Want of memory is free.
-use Rattle.std.specs.Prelude.{◌≡◌, ℕ, ◌+◌, true, false, List, Option, Some, None, Result, Ok, Err, ⊤}
+use Rattle.std.specs.Prelude.{◌≡◌, ◌≤◌, ◌<◌, ◌^◌, ℕ, ◌+◌, true, false, List, length, Option, Some, None, Result, Ok, Err, ⊤}
 use Rattle.dl_outside.specs.Faults.{HasRisen}
+use Rattle.record_keeper.specs.Keeping.{Records}
 use Rattle.record_keeper.specs.declared.error.KeeperError.{KeeperError}
 use Rattle.record_keeper.specs.declared.error.KeeperError.TheVariants as keeping
 use Rattle.journal_records.specs.declared.errors.EncodeError.{EncodeError}
 use Rattle.journal_records.specs.declared.errors.EncodeError.TheVariants as encoding
 use Rattle.journal_records.specs.declared.record.Record.{Record}
 use Rattle.journal_records.specs.Fitting.{short, Fits}
+use Rattle.journal_core.specs.Journal.{AllFit, FirstBad}
 use Rattle.journal_core.specs.declared.error.JournalError.{JournalError}
 use Rattle.journal_core.specs.declared.error.JournalError.TheVariants as journal
 
@@ -34,9 +36,15 @@ ReadHasCause place before now (Err (journal.BadJournal seq)) = seq ≡ place + 1
 ReadHasCause place before now (Err journal.TooLong) = ⊥
 ReadHasCause place before now (Err journal.NoMemory) = ⊤
 
-abbrev pub ReplayHasCause : ℕ → ℕ → Result (List Record) JournalError → Type 0
-ReplayHasCause before now (Ok all) = ⊤
-ReplayHasCause before now (Err journal.KeeperFault) = HasRisen before now
-ReplayHasCause before now (Err (journal.BadJournal seq)) = ⊤
-ReplayHasCause before now (Err journal.TooLong) = ⊥
-ReplayHasCause before now (Err journal.NoMemory) = ⊤
+-- where records are told, the first that is none
+abbrev pub IsFirstBad : Records → ℕ → Type 0
+IsFirstBad None seq = ⊤
+IsFirstBad (Some records) seq = FirstBad records seq
+
+-- by the records told after the call; a journal has fewer than 2^63, whatever is told
+abbrev pub ReplayHasCause : Records → ℕ → ℕ → Result (List Record) JournalError → Type 0
+ReplayHasCause told before now (Ok all) = AllFit all × (length all < 2 ^ 63)
+ReplayHasCause told before now (Err journal.KeeperFault) = HasRisen before now
+ReplayHasCause told before now (Err (journal.BadJournal seq)) = (1 ≤ seq) × (seq ≤ 2 ^ 63) × IsFirstBad told seq
+ReplayHasCause told before now (Err journal.TooLong) = ⊥
+ReplayHasCause told before now (Err journal.NoMemory) = ⊤

@@ -10,6 +10,3 @@ pub use append::append_one;
 pub use error::JournalError;
 pub use read::read_one;
 pub use replaying::replay;
-
-#[cfg(test)]
-mod tests;

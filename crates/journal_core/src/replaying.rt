@@ -17,7 +17,7 @@ const MOST: u64 = (1 << 63) - 1;
 pub fn replay<K: Keeper>(alloc: Global, keeper: &mut K) -> Result<Items<Record>, JournalError>
     ensures read { Replays (K.records keeper.old) (K.records keeper.new) result }
     ensures later { K.faults keeper.old ≤ K.faults keeper.new }
-    ensures cause { ReplayHasCause (K.faults keeper.old) (K.faults keeper.new) result }
+    ensures cause { ReplayHasCause (K.records keeper.new) (K.faults keeper.old) (K.faults keeper.new) result }
 {
     let mut found = Items::new(alloc);
     for place in 0..MOST {

@@ -1,5 +1,6 @@
 pub mod Appends
 pub mod Cells
+pub mod Encoded
 pub mod Fields
 pub mod Loops
 pub mod Records

@@ -90,9 +90,9 @@ type_reads = record { takes = type_sound; again = type_again }
 
 -- ---- shapes and layouts
 
-column_reads : Reads column FitsColumn column_at
+column_reads : (format : ℕ) → Reads (column format) FitsColumn (column_at format)
 unfolding column_at column
-column_reads =
+column_reads format =
     whole (field (λ c. c.name) text_reads (λ name.
     field (λ c. c.kind) type_reads (λ ty.
     field (λ c. c.nullable) flag_reads (λ nullable.
@@ -101,11 +101,11 @@ column_reads =
     (λ default. (((((tt, refl), refl), refl), refl), refl))
     (λ c k. rw (← k.1, ← k.0.1, ← k.0.0.1, ← k.0.0.0.1) refl))))))
 
-shape_reads : Reads shape FitsShape shape_at
+shape_reads : (format : ℕ) → Reads (shape format) FitsShape (shape_at format)
 unfolding shape_at shape
-shape_reads =
+shape_reads format =
     whole (field (λ s. s.model) model_reads (λ m.
-    last (λ s. s.columns) (λ columns. record { model = m; columns = columns }) (list_reads column_reads) (λ columns. ((tt, refl), refl)) (λ s k. rw (← k.1) refl)))
+    last (λ s. s.columns) (λ columns. record { model = m; columns = columns }) (list_reads (column_reads format)) (λ columns. ((tt, refl), refl)) (λ s k. rw (← k.1) refl)))
 
 part_reads : Reads part FitsRange part_at
 unfolding part_at part
@@ -126,12 +126,12 @@ layout_reads =
 
 -- ---- tables
 
-pub new_table_reads : Reads new_table FitsTable new_table_at
+pub new_table_reads : (format : ℕ) → Reads (new_table format) FitsTable (new_table_at format)
 unfolding new_table_at new_table
-new_table_reads =
+new_table_reads format =
     whole (field (λ t. t.db) text_reads (λ db.
     field (λ t. t.name) text_reads (λ name.
-    field (λ t. t.shape) shape_reads (λ s.
+    field (λ t. t.shape) (shape_reads format) (λ s.
     last (λ t. t.layout) (λ l. record { db = db; name = name; shape = s; layout = l }) layout_reads
     (λ l. ((((tt, refl), refl), refl), refl))
     (λ t k. rw (← k.1, ← k.0.1, ← k.0.0.1) refl)))))
@@ -158,32 +158,32 @@ rollup_reads =
     whole (field (λ r. r.name) text_reads (λ name.
     last (λ r. r.columns) (λ columns. record { name = name; columns = columns }) (list_reads text_reads) (λ columns. ((tt, refl), refl)) (λ r k. rw (← k.1) refl)))
 
-schema_reads : Reads schema FitsSchema schema_at
+schema_reads : (format : ℕ) → Reads (schema format) FitsSchema (schema_at format)
 unfolding schema_at schema
-schema_reads =
-    whole (field (λ s. s.shape) shape_reads (λ to.
+schema_reads format =
+    whole (field (λ s. s.shape) (shape_reads format) (λ to.
     last (λ s. s.origins) (λ sources. record { shape = to; origins = sources }) (list_reads origin_reads) (λ sources. ((tt, refl), refl)) (λ s k. rw (← k.1) refl)))
 
-change_sound : Sound change FitsChange change_at
+change_sound : (format : ℕ) → Sound (change format) FitsChange (change_at format)
 unfolding change_at
-change_sound =
-    tag_sound 0 change FitsChange _ _ (behind 0 change FitsChange changes.Rollup rollup_reads (λ r. refl) (λ r h. h))
-    (tag_sound 1 change FitsChange _ _ (behind 1 change FitsChange changes.Schema schema_reads (λ s. refl) (λ s h. h)) (none_sound change FitsChange))
+change_sound format =
+    tag_sound 0 (change format) FitsChange _ _ (behind 0 (change format) FitsChange changes.Rollup rollup_reads (λ r. refl) (λ r h. h))
+    (tag_sound 1 (change format) FitsChange _ _ (behind 1 (change format) FitsChange changes.Schema (schema_reads format) (λ s. refl) (λ s h. h)) (none_sound (change format) FitsChange))
 
-change_again : (c : Change) (rest : List ℕ) → FitsChange c → change_at (change c ++ rest) ≡ Ok (c, rest)
+change_again : (format : ℕ) (c : Change) (rest : List ℕ) → FitsChange c → change_at format (change format c ++ rest) ≡ Ok (c, rest)
 unfolding change_at
-change_again (changes.Rollup r) rest fits = made_again changes.Rollup rollup_reads r rest fits
-change_again (changes.Schema s) rest fits = made_again changes.Schema schema_reads s rest fits
+change_again format (changes.Rollup r) rest fits = made_again changes.Rollup rollup_reads r rest fits
+change_again format (changes.Schema s) rest fits = made_again changes.Schema (schema_reads format) s rest fits
 
-change_reads : Reads change FitsChange change_at
-change_reads = record { takes = change_sound; again = change_again }
+change_reads : (format : ℕ) → Reads (change format) FitsChange (change_at format)
+change_reads format = record { takes = change_sound format; again = change_again format }
 
-pub new_job_reads : Reads new_job FitsJob new_job_at
+pub new_job_reads : (format : ℕ) → Reads (new_job format) FitsJob (new_job_at format)
 unfolding new_job_at new_job
-new_job_reads =
+new_job_reads format =
     whole (field (λ j. j.job) number64_reads (λ job.
     field (λ j. j.table) number64_reads (λ table.
     field (λ j. j.at) number64_reads (λ at.
-    last (λ j. j.change) (λ c. record { job = job; table = table; at = at; change = c }) change_reads
+    last (λ j. j.change) (λ c. record { job = job; table = table; at = at; change = c }) (change_reads format)
     (λ c. ((((tt, refl), refl), refl), refl))
     (λ j k. rw (← k.1, ← k.0.1, ← k.0.0.1) refl)))))

@@ -43,8 +43,11 @@ short_cell _ = true
 abbrev pub short_row : List Cell → Bool
 short_row cells = short_list short_cell cells
 
+abbrev pub short_rows : List (List Cell) → Bool
+short_rows rows = short_list short_row rows
+
 abbrev pub short_load : Load → Bool
-short_load l = short_text l.label && short_list short_row l.rows
+short_load l = short_text l.label && short_rows l.rows
 
 abbrev pub short_bound : Option Cell → Bool
 short_bound None = true
@@ -102,7 +105,20 @@ short (kind.AddJob j) = short_job j
 short (kind.JobCancelled job at c) = short_cause c
 short _ = true
 
--- ---- and numbers in their width, texts of UTF-8, days that the calendar has
+-- ---- days that the calendar has, and texts of UTF-8
+
+abbrev pub readable_cell : Cell → Bool
+readable_cell (cell.Day d) = is_calendar_day d
+readable_cell (cell.Text t) = is_utf8 t
+readable_cell _ = true
+
+abbrev pub readable_row : List Cell → Bool
+readable_row cells = list_all readable_cell cells
+
+abbrev pub readable_rows : List (List Cell) → Bool
+readable_rows rows = list_all readable_row rows
+
+-- ---- all of these, and numbers in their width
 
 abbrev pub Fits64 : ℕ → Type 0
 Fits64 n = n < 2 ^ 64
@@ -125,6 +141,12 @@ FitsCell cell.Null = Unit {0}
 FitsCell (cell.Int z) = FitsSigned w64 z
 FitsCell (cell.Day d) = FitsDay d
 FitsCell (cell.Text t) = FitsText t
+
+-- the numbers alone
+abbrev pub InWidth : Cell → Type 0
+InWidth (cell.Int z) = FitsSigned w64 z
+InWidth (cell.Day d) = d < 2 ^ 32
+InWidth _ = Unit {0}
 
 abbrev pub FitsRow : List Cell → Type 0
 FitsRow cells = FitsList FitsCell cells

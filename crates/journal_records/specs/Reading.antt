@@ -169,8 +169,8 @@ type_at =
     (tagged 4 (is types.Date)
     (tagged 5 (number_at w32 >>= λ len. is (types.Varchar len)) no_tag)))))
 
-unfoldable pub column_at : Reader ColumnDef
-column_at = do
+unfoldable pub column_at : ℕ → Reader ColumnDef
+column_at format = do
   name ← text_at
   ty ← type_at
   nullable ← flag_at
@@ -178,10 +178,10 @@ column_at = do
   default ← bound_at
   is (record { name = name; kind = ty; nullable = nullable; role = role; default = default })
 
-unfoldable pub shape_at : Reader ShapeDef
-shape_at = do
+unfoldable pub shape_at : ℕ → Reader ShapeDef
+shape_at format = do
   model ← model_at
-  columns ← listed_at column_at
+  columns ← listed_at (column_at format)
   is (record { model = model; columns = columns })
 
 unfoldable pub part_at : Reader Part
@@ -199,11 +199,11 @@ layout_at = do
   buckets ← number_at w32
   is (record { column = column; parts = parts; hash = hash; buckets = buckets })
 
-unfoldable pub new_table_at : Reader NewTable
-new_table_at = do
+unfoldable pub new_table_at : ℕ → Reader NewTable
+new_table_at format = do
   db ← text_at
   name ← text_at
-  shape ← shape_at
+  shape ← shape_at format
   layout ← layout_at
   is (record { db = db; name = name; shape = shape; layout = layout })
 
@@ -216,21 +216,21 @@ rollup_at = do
   columns ← listed_at text_at
   is (record { name = name; columns = columns })
 
-unfoldable pub schema_at : Reader SchemaDef
-schema_at = do
-  shape ← shape_at
+unfoldable pub schema_at : ℕ → Reader SchemaDef
+schema_at format = do
+  shape ← shape_at format
   sources ← listed_at origin_at
   is (record { shape = shape; origins = sources })
 
-unfoldable pub change_at : Reader Change
-change_at = tagged 0 (rollup_at >>= λ r. is (changes.Rollup r)) (tagged 1 (schema_at >>= λ s. is (changes.Schema s)) no_tag)
+unfoldable pub change_at : ℕ → Reader Change
+change_at format = tagged 0 (rollup_at >>= λ r. is (changes.Rollup r)) (tagged 1 (schema_at format >>= λ s. is (changes.Schema s)) no_tag)
 
-unfoldable pub new_job_at : Reader NewJob
-new_job_at = do
+unfoldable pub new_job_at : ℕ → Reader NewJob
+new_job_at format = do
   job ← number64_at
   table ← number64_at
   at ← number64_at
-  change ← change_at
+  change ← change_at format
   is (record { job = job; table = table; at = at; change = change })
 
 unfoldable pub data_cause_at : Reader (List ℕ × List Cell)
@@ -272,30 +272,30 @@ job_cancelled_at = do
   is (kind.JobCancelled p.0 p.1 c)
 
 -- the kinds from 8 on
-unfoldable pub later_at : Reader Record
-later_at =
+unfoldable pub later_at : ℕ → Reader Record
+later_at format =
     tagged 8 (pair_at >>= λ p. is (kind.Abort p.0 p.1))
     (tagged 9 (pair_at >>= λ p. is (kind.Publish p.0 p.1))
-    (tagged 10 (new_job_at >>= λ j. is (kind.AddJob j))
+    (tagged 10 (new_job_at format >>= λ j. is (kind.AddJob j))
     (tagged 11 job_waiting_at
     (tagged 12 (pair_at >>= λ p. is (kind.JobFinished p.0 p.1))
     (tagged 13 job_cancelled_at
     (tagged 14 (number64_at >>= λ at. is (kind.Sweep at)) no_tag))))))
 
--- the byte of the kind, and the fields
-unfoldable pub fields_at : Reader Record
-fields_at =
+-- the byte of the kind, and the fields, in a format
+unfoldable pub fields_at : ℕ → Reader Record
+fields_at format =
     tagged 1 (text_at >>= λ name. is (kind.CreateDb name))
-    (tagged 2 (new_table_at >>= λ t. is (kind.CreateTable t))
+    (tagged 2 (new_table_at format >>= λ t. is (kind.CreateTable t))
     (tagged 3 (pair_at >>= λ p. is (kind.DropTable p.0 p.1))
     (tagged 4 (new_part_at >>= λ p. is (kind.AddPartition p))
     (tagged 5 (number64_at >>= λ upto. is (kind.IdRange upto))
     (tagged 6 (load_at >>= λ l. is (kind.Submit l))
-    (tagged 7 commit_at later_at))))))
+    (tagged 7 commit_at (later_at format)))))))
 
 -- the byte of the format, and these
 unfoldable pub record_at : Reader Record
-record_at = tagged 1 fields_at no_tag
+record_at = tagged 1 (fields_at 1) no_tag
 
 -- ---- all of the bytes
 

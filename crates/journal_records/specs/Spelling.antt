@@ -83,7 +83,7 @@ bound end = optional cell end
 unfoldable pub new_part : NewPart → List ℕ
 new_part p = number64 p.table ++ (text p.name ++ (bound p.low ++ bound p.high))
 
--- ---- tables and jobs
+-- ---- tables and jobs, where a shape is spelled by the format of its record
 
 abbrev pub column_type : ColType → List ℕ
 column_type types.TinyInt = 0 ∷ []
@@ -107,11 +107,11 @@ model models.Duplicate = 0 ∷ []
 model models.Unique = 1 ∷ []
 model models.Aggregate = 2 ∷ []
 
-unfoldable pub column : ColumnDef → List ℕ
-column c = text c.name ++ (column_type c.kind ++ (flag c.nullable ++ (role c.role ++ bound c.default)))
+unfoldable pub column : ℕ → ColumnDef → List ℕ
+column format c = text c.name ++ (column_type c.kind ++ (flag c.nullable ++ (role c.role ++ bound c.default)))
 
-unfoldable pub shape : ShapeDef → List ℕ
-shape s = model s.model ++ listed column s.columns
+unfoldable pub shape : ℕ → ShapeDef → List ℕ
+shape format s = model s.model ++ listed (column format) s.columns
 
 unfoldable pub part : Part → List ℕ
 part p = text p.name ++ (bound p.low ++ bound p.high)
@@ -119,8 +119,8 @@ part p = text p.name ++ (bound p.low ++ bound p.high)
 unfoldable pub layout : LayoutDef → List ℕ
 layout l = optional text l.column ++ (listed part l.parts ++ (listed text l.hash ++ number32 l.buckets))
 
-unfoldable pub new_table : NewTable → List ℕ
-new_table t = text t.db ++ (text t.name ++ (shape t.shape ++ layout t.layout))
+unfoldable pub new_table : ℕ → NewTable → List ℕ
+new_table format t = text t.db ++ (text t.name ++ (shape format t.shape ++ layout t.layout))
 
 abbrev pub origin : Origin → List ℕ
 origin (origins.From name) = 0 ∷ text name
@@ -129,15 +129,15 @@ origin (origins.Constant c) = 1 ∷ cell c
 unfoldable pub rollup : RollupDef → List ℕ
 rollup r = text r.name ++ listed text r.columns
 
-unfoldable pub schema : SchemaDef → List ℕ
-schema s = shape s.shape ++ listed origin s.origins
+unfoldable pub schema : ℕ → SchemaDef → List ℕ
+schema format s = shape format s.shape ++ listed origin s.origins
 
-abbrev pub change : Change → List ℕ
-change (changes.Rollup r) = 0 ∷ rollup r
-change (changes.Schema s) = 1 ∷ schema s
+abbrev pub change : ℕ → Change → List ℕ
+change format (changes.Rollup r) = 0 ∷ rollup r
+change format (changes.Schema s) = 1 ∷ schema format s
 
-unfoldable pub new_job : NewJob → List ℕ
-new_job j = number64 j.job ++ (number64 j.table ++ (number64 j.at ++ change j.change))
+unfoldable pub new_job : ℕ → NewJob → List ℕ
+new_job format j = number64 j.job ++ (number64 j.table ++ (number64 j.at ++ change format j.change))
 
 -- ---- causes
 
@@ -156,23 +156,23 @@ pair p = number64 p.0 ++ number64 p.1
 
 -- ---- records
 
--- the byte of the kind, and the fields
-abbrev pub fields : Record → List ℕ
-fields (kind.CreateDb name) = 1 ∷ text name
-fields (kind.CreateTable t) = 2 ∷ new_table t
-fields (kind.DropTable table at) = 3 ∷ pair (table, at)
-fields (kind.AddPartition p) = 4 ∷ new_part p
-fields (kind.IdRange upto) = 5 ∷ number64 upto
-fields (kind.Submit l) = 6 ∷ load l
-fields (kind.Commit txn at cancelled) = 7 ∷ (pair (txn, at) ++ optional number64 cancelled)
-fields (kind.Abort txn at) = 8 ∷ pair (txn, at)
-fields (kind.Publish txn at) = 9 ∷ pair (txn, at)
-fields (kind.AddJob j) = 10 ∷ new_job j
-fields (kind.JobWaiting job watershed upto) = 11 ∷ (pair (job, watershed) ++ number64 upto)
-fields (kind.JobFinished job at) = 12 ∷ pair (job, at)
-fields (kind.JobCancelled job at c) = 13 ∷ (pair (job, at) ++ cause c)
-fields (kind.Sweep at) = 14 ∷ number64 at
+-- the byte of the kind, and the fields, in a format
+abbrev pub fields : ℕ → Record → List ℕ
+fields format (kind.CreateDb name) = 1 ∷ text name
+fields format (kind.CreateTable t) = 2 ∷ new_table format t
+fields format (kind.DropTable table at) = 3 ∷ pair (table, at)
+fields format (kind.AddPartition p) = 4 ∷ new_part p
+fields format (kind.IdRange upto) = 5 ∷ number64 upto
+fields format (kind.Submit l) = 6 ∷ load l
+fields format (kind.Commit txn at cancelled) = 7 ∷ (pair (txn, at) ++ optional number64 cancelled)
+fields format (kind.Abort txn at) = 8 ∷ pair (txn, at)
+fields format (kind.Publish txn at) = 9 ∷ pair (txn, at)
+fields format (kind.AddJob j) = 10 ∷ new_job format j
+fields format (kind.JobWaiting job watershed upto) = 11 ∷ (pair (job, watershed) ++ number64 upto)
+fields format (kind.JobFinished job at) = 12 ∷ pair (job, at)
+fields format (kind.JobCancelled job at c) = 13 ∷ (pair (job, at) ++ cause c)
+fields format (kind.Sweep at) = 14 ∷ number64 at
 
 -- the byte of the format, and these
 abbrev pub spelling : Record → List ℕ
-spelling r = 1 ∷ fields r
+spelling r = 1 ∷ fields 1 r

@@ -32,28 +32,28 @@ impl Piece for Change {
         }
     }
 
-    fn put(&self, out: &mut Vec<u8>) -> Result<(), NoMemory> {
+    fn put(&self, format: u8, out: &mut Vec<u8>) -> Result<(), NoMemory> {
         match self {
             Change::Rollup(rollup) => {
                 out.push(0)?;
-                rollup.put(out)?;
+                rollup.put(format, out)?;
             }
             Change::Schema(schema) => {
                 out.push(1)?;
-                schema.put(out)?;
+                schema.put(format, out)?;
             }
         }
         Ok(())
     }
 
     #[tactic(auto, unfolding(crate::specs::Reading::change_at))]
-    fn read(alloc: Global, bytes: &[u8]) -> Result<(Change, &[u8]), Stop> {
+    fn read(alloc: Global, format: u8, bytes: &[u8]) -> Result<(Change, &[u8]), Stop> {
         if let Some(rest) = after_tag(bytes, 0) {
-            let (rollup, rest) = RollupDef::read(alloc, rest)?;
+            let (rollup, rest) = RollupDef::read(alloc, format, rest)?;
             return Ok((Change::Rollup(rollup), rest));
         }
         if let Some(rest) = after_tag(bytes, 1) {
-            let (schema, rest) = SchemaDef::read(alloc, rest)?;
+            let (schema, rest) = SchemaDef::read(alloc, format, rest)?;
             return Ok((Change::Schema(schema), rest));
         }
         Err(Stop::Left(bytes.len()))

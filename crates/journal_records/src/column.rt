@@ -26,7 +26,7 @@ impl Piece for ColumnDef {
     }
 
     #[tactic(auto, unfolding(crate::specs::Spelling::column))]
-    fn put(&self, out: &mut Vec<u8>) -> Result<(), NoMemory> {
+    fn put(&self, _format: u8, out: &mut Vec<u8>) -> Result<(), NoMemory> {
         put_text(out, self.name.bytes())?;
         put_type(out, self.kind)?;
         put_flag(out, self.nullable)?;
@@ -36,7 +36,7 @@ impl Piece for ColumnDef {
     }
 
     #[tactic(auto, unfolding(crate::specs::Reading::column_at))]
-    fn read(alloc: Global, bytes: &[u8]) -> Result<(ColumnDef, &[u8]), Stop> {
+    fn read(alloc: Global, _format: u8, bytes: &[u8]) -> Result<(ColumnDef, &[u8]), Stop> {
         let (name, rest) = name(alloc, bytes)?;
         let (kind, rest) = column_type(rest)?;
         let (nullable, rest) = flag(rest)?;

@@ -25,11 +25,11 @@ impl Piece for LayoutDef {
     ghost use Rattle.journal_records.specs.Fitting.{short_layout};
     ghost use Rattle.journal_records.specs.Reading.{layout_at};
 
-    ghost spelled = { layout };
+    ghost spelled = { λ _. layout };
 
     ghost short = { short_layout };
 
-    ghost reader = { layout_at };
+    ghost reader = { λ _. layout_at };
 
     fn is_short(&self) -> bool {
         is_short_option(&self.column)
@@ -38,19 +38,19 @@ impl Piece for LayoutDef {
     }
 
     #[tactic(auto, unfolding(crate::specs::Spelling::layout))]
-    fn put(&self, out: &mut Vec<u8>) -> Result<(), NoMemory> {
-        put_option(out, &self.column)?;
-        put_list(out, self.parts.as_slice())?;
-        put_list(out, self.hash.as_slice())?;
+    fn put(&self, format: u8, out: &mut Vec<u8>) -> Result<(), NoMemory> {
+        put_option(out, format, &self.column)?;
+        put_list(out, format, self.parts.as_slice())?;
+        put_list(out, format, self.hash.as_slice())?;
         put_number32(out, self.buckets)?;
         Ok(())
     }
 
     #[tactic(auto, unfolding(crate::specs::Reading::layout_at))]
-    fn read(alloc: Global, bytes: &[u8]) -> Result<(LayoutDef, &[u8]), Stop> {
-        let (column, rest) = option(alloc, bytes)?;
-        let (parts, rest) = list(alloc, rest)?;
-        let (hash, rest) = list(alloc, rest)?;
+    fn read(alloc: Global, format: u8, bytes: &[u8]) -> Result<(LayoutDef, &[u8]), Stop> {
+        let (column, rest) = option(alloc, format, bytes)?;
+        let (parts, rest) = list(alloc, format, rest)?;
+        let (hash, rest) = list(alloc, format, rest)?;
         let (buckets, rest) = number32(rest)?;
         let layout = LayoutDef {
             column,

@@ -32,24 +32,29 @@ pub fn is_short_list<T: Piece>(pieces: &[T]) -> bool
     pieces.len() < LIMIT && are_short(pieces)
 }
 
-pub fn put_list<T: Piece>(out: &mut Vec<u8>, pieces: &[T]) -> Result<(), NoMemory>
-    ensures { OnOk result (out.new.items ≡ out.old.items ++ bytes_of.listed T.spelled pieces.now) }
+pub fn put_list<T: Piece>(out: &mut Vec<u8>, format: u8, pieces: &[T]) -> Result<(), NoMemory>
+    ensures { OnOk result (out.new.items ≡ out.old.items ++ bytes_of.listed (T.spelled format) pieces.now) }
 {
     put_length(out, pieces.len())?;
     for piece in pieces {
-        piece.put(out)?;
+        piece.put(format, out)?;
     }
     Ok(())
 }
 
 // So many pieces.
-fn pieces_of<T: Piece>(alloc: Global, count: u32, bytes: &[u8]) -> Result<(Items<T>, &[u8]), Stop>
-    ensures { Gives (λ x. (x.0, x.1.now)) result (times count T.reader bytes.now) }
+fn pieces_of<T: Piece>(
+    alloc: Global,
+    format: u8,
+    count: u32,
+    bytes: &[u8],
+) -> Result<(Items<T>, &[u8]), Stop>
+    ensures { Gives (λ x. (x.0, x.1.now)) result (times count (T.reader format) bytes.now) }
 {
     let mut pieces = Items::new(alloc);
     let mut rest = bytes;
     for _ in 0..count {
-        let (piece, after) = T::read(alloc, rest)?;
+        let (piece, after) = T::read(alloc, format, rest)?;
         pieces.push(piece)?;
         rest = after;
     }
@@ -57,11 +62,11 @@ fn pieces_of<T: Piece>(alloc: Global, count: u32, bytes: &[u8]) -> Result<(Items
 }
 
 // Pieces behind their count.
-pub fn list<T: Piece>(alloc: Global, bytes: &[u8]) -> Result<(Items<T>, &[u8]), Stop>
-    ensures { Gives (λ x. (x.0, x.1.now)) result (listed_at T.reader bytes.now) }
+pub fn list<T: Piece>(alloc: Global, format: u8, bytes: &[u8]) -> Result<(Items<T>, &[u8]), Stop>
+    ensures { Gives (λ x. (x.0, x.1.now)) result (listed_at (T.reader format) bytes.now) }
 {
     let (count, rest) = number32(bytes)?;
-    let (pieces, rest) = pieces_of(alloc, count, rest)?;
+    let (pieces, rest) = pieces_of(alloc, format, count, rest)?;
     Ok((pieces, rest))
 }
 
@@ -74,28 +79,32 @@ pub fn is_short_option<T: Piece>(piece: &Option<T>) -> bool
     }
 }
 
-pub fn put_option<T: Piece>(out: &mut Vec<u8>, piece: &Option<T>) -> Result<(), NoMemory>
-    ensures { OnOk result (out.new.items ≡ out.old.items ++ bytes_of.optional T.spelled piece.now) }
+pub fn put_option<T: Piece>(
+    out: &mut Vec<u8>,
+    format: u8,
+    piece: &Option<T>,
+) -> Result<(), NoMemory>
+    ensures { OnOk result (out.new.items ≡ out.old.items ++ bytes_of.optional (T.spelled format) piece.now) }
 {
     match piece {
         None => out.push(0)?,
         Some(piece) => {
             out.push(1)?;
-            piece.put(out)?;
+            piece.put(format, out)?;
         }
     }
     Ok(())
 }
 
 // A piece, if there is one.
-pub fn option<T: Piece>(alloc: Global, bytes: &[u8]) -> Result<(Option<T>, &[u8]), Stop>
-    ensures { Gives (λ x. (x.0, x.1.now)) result (optional_at T.reader bytes.now) }
+pub fn option<T: Piece>(alloc: Global, format: u8, bytes: &[u8]) -> Result<(Option<T>, &[u8]), Stop>
+    ensures { Gives (λ x. (x.0, x.1.now)) result (optional_at (T.reader format) bytes.now) }
 {
     if let Some(rest) = after_tag(bytes, 0) {
         return Ok((None, rest));
     }
     if let Some(rest) = after_tag(bytes, 1) {
-        let (piece, rest) = T::read(alloc, rest)?;
+        let (piece, rest) = T::read(alloc, format, rest)?;
         return Ok((Some(piece), rest));
     }
     Err(Stop::Left(bytes.len()))

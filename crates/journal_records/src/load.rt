@@ -1,5 +1,6 @@
 // The record of a load whose rows were handed in.
-use dl_values::{Name, Rows};
+use crate::encoded_rows::EncodedRows;
+use dl_values::Name;
 
 /// A load with its rows.
 #[derive(Debug, Drop)]
@@ -14,5 +15,5 @@ pub struct Load {
     pub schema: u64,
     /// The job that a row of the load cannot be converted for.
     pub cancelled: Option<u64>,
-    pub rows: Rows,
+    pub rows: EncodedRows,
 }

@@ -33,20 +33,20 @@ impl Piece for NewJob {
     }
 
     #[tactic(auto, unfolding(crate::specs::Spelling::new_job))]
-    fn put(&self, out: &mut Vec<u8>) -> Result<(), NoMemory> {
+    fn put(&self, format: u8, out: &mut Vec<u8>) -> Result<(), NoMemory> {
         put_number64(out, self.job)?;
         put_number64(out, self.table)?;
         put_number64(out, self.at)?;
-        self.change.put(out)?;
+        self.change.put(format, out)?;
         Ok(())
     }
 
     #[tactic(auto, unfolding(crate::specs::Reading::new_job_at))]
-    fn read(alloc: Global, bytes: &[u8]) -> Result<(NewJob, &[u8]), Stop> {
+    fn read(alloc: Global, format: u8, bytes: &[u8]) -> Result<(NewJob, &[u8]), Stop> {
         let (job, rest) = number64(bytes)?;
         let (table, rest) = number64(rest)?;
         let (at, rest) = number64(rest)?;
-        let (change, rest) = Change::read(alloc, rest)?;
+        let (change, rest) = Change::read(alloc, format, rest)?;
         let job = NewJob {
             job,
             table,

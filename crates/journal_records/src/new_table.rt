@@ -37,20 +37,20 @@ impl Piece for NewTable {
     }
 
     #[tactic(auto, unfolding(crate::specs::Spelling::new_table))]
-    fn put(&self, out: &mut Vec<u8>) -> Result<(), NoMemory> {
+    fn put(&self, format: u8, out: &mut Vec<u8>) -> Result<(), NoMemory> {
         put_text(out, self.db.bytes())?;
         put_text(out, self.name.bytes())?;
-        self.shape.put(out)?;
-        self.layout.put(out)?;
+        self.shape.put(format, out)?;
+        self.layout.put(format, out)?;
         Ok(())
     }
 
     #[tactic(auto, unfolding(crate::specs::Reading::new_table_at))]
-    fn read(alloc: Global, bytes: &[u8]) -> Result<(NewTable, &[u8]), Stop> {
+    fn read(alloc: Global, format: u8, bytes: &[u8]) -> Result<(NewTable, &[u8]), Stop> {
         let (db, rest) = name(alloc, bytes)?;
         let (name, rest) = name(alloc, rest)?;
-        let (shape, rest) = ShapeDef::read(alloc, rest)?;
-        let (layout, rest) = LayoutDef::read(alloc, rest)?;
+        let (shape, rest) = ShapeDef::read(alloc, format, rest)?;
+        let (layout, rest) = LayoutDef::read(alloc, format, rest)?;
         let table = NewTable {
             db,
             name,

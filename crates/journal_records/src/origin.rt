@@ -22,11 +22,11 @@ impl Piece for Origin {
     ghost use Rattle.journal_records.specs.Fitting.{short_origin};
     ghost use Rattle.journal_records.specs.Reading.{origin_at};
 
-    ghost spelled = { origin };
+    ghost spelled = { λ _. origin };
 
     ghost short = { short_origin };
 
-    ghost reader = { origin_at };
+    ghost reader = { λ _. origin_at };
 
     fn is_short(&self) -> bool {
         match self {
@@ -35,7 +35,7 @@ impl Piece for Origin {
         }
     }
 
-    fn put(&self, out: &mut Vec<u8>) -> Result<(), NoMemory> {
+    fn put(&self, _format: u8, out: &mut Vec<u8>) -> Result<(), NoMemory> {
         match self {
             Origin::From(column) => {
                 out.push(0)?;
@@ -50,7 +50,7 @@ impl Piece for Origin {
     }
 
     #[tactic(auto, unfolding(crate::specs::Reading::origin_at))]
-    fn read(alloc: Global, bytes: &[u8]) -> Result<(Origin, &[u8]), Stop> {
+    fn read(alloc: Global, _format: u8, bytes: &[u8]) -> Result<(Origin, &[u8]), Stop> {
         if let Some(rest) = after_tag(bytes, 0) {
             let (column, rest) = name(alloc, rest)?;
             return Ok((Origin::From(column), rest));

@@ -20,18 +20,18 @@ impl Piece for Part {
     ghost use Rattle.journal_records.specs.Fitting.{short_range};
     ghost use Rattle.journal_records.specs.Reading.{part_at};
 
-    ghost spelled = { part };
+    ghost spelled = { λ _. part };
 
     ghost short = { short_range };
 
-    ghost reader = { part_at };
+    ghost reader = { λ _. part_at };
 
     fn is_short(&self) -> bool {
         is_short_text(self.name.bytes()) && is_short_bound(&self.low) && is_short_bound(&self.high)
     }
 
     #[tactic(auto, unfolding(crate::specs::Spelling::part))]
-    fn put(&self, out: &mut Vec<u8>) -> Result<(), NoMemory> {
+    fn put(&self, _format: u8, out: &mut Vec<u8>) -> Result<(), NoMemory> {
         put_text(out, self.name.bytes())?;
         put_bound(out, &self.low)?;
         put_bound(out, &self.high)?;
@@ -39,7 +39,7 @@ impl Piece for Part {
     }
 
     #[tactic(auto, unfolding(crate::specs::Reading::part_at))]
-    fn read(alloc: Global, bytes: &[u8]) -> Result<(Part, &[u8]), Stop> {
+    fn read(alloc: Global, _format: u8, bytes: &[u8]) -> Result<(Part, &[u8]), Stop> {
         let (name, rest) = name(alloc, bytes)?;
         let (low, rest) = bound(alloc, rest)?;
         let (high, rest) = bound(alloc, rest)?;

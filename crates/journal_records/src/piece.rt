@@ -1,4 +1,4 @@
-// What lists of a record hold, and what a record is put together of.
+// What lists of a record hold, and what a record is put together of. How it is spelled may depend on the format of the record.
 ghost use Rattle.std.specs.Prelude.{◌≡◌, ◌++◌, ℕ, Bool, List, Result, OnOk};
 ghost use Rattle.journal_records.specs.Reading.{Gives};
 
@@ -11,25 +11,25 @@ use std::alloc::Global;
 
 /// A part of records that is written, and read again.
 pub trait Piece: Drop {
-    // Its bytes.
-    ghost spelled: { Self → List ℕ };
+    // Its bytes in a format.
+    ghost spelled: { ℕ → Self → List ℕ };
 
     // Whether its texts and lists are shorter than 2^32.
     ghost short: { Self → Bool };
 
-    // What is read from the front of bytes.
-    ghost reader: { List ℕ → Result (Self × List ℕ) ℕ };
+    // What is read from the front of bytes in a format.
+    ghost reader: { ℕ → List ℕ → Result (Self × List ℕ) ℕ };
 
     fn is_short(&self) -> bool
         ensures { result ≡ short self.now };
 
-    /// Writes it at the end.
-    fn put(&self, out: &mut Vec<u8>) -> Result<(), NoMemory>
-        ensures { OnOk result (out.new.items ≡ out.old.items ++ spelled self.now) };
+    /// Writes it at the end, in the format of the record.
+    fn put(&self, format: u8, out: &mut Vec<u8>) -> Result<(), NoMemory>
+        ensures { OnOk result (out.new.items ≡ out.old.items ++ spelled format self.now) };
 
     /// The part that the bytes begin with, and the bytes behind it.
-    fn read(alloc: Global, bytes: &[u8]) -> Result<(Self, &[u8]), Stop>
-        ensures { Gives (λ x. (x.0, x.1.now)) result (reader bytes.now) };
+    fn read(alloc: Global, format: u8, bytes: &[u8]) -> Result<(Self, &[u8]), Stop>
+        ensures { Gives (λ x. (x.0, x.1.now)) result (reader format bytes.now) };
 }
 
 impl Piece for Name {
@@ -37,21 +37,21 @@ impl Piece for Name {
     ghost use Rattle.journal_records.specs.Fitting.{short_text};
     ghost use Rattle.journal_records.specs.Reading.{text_at};
 
-    ghost spelled = { text };
+    ghost spelled = { λ _. text };
 
     ghost short = { short_text };
 
-    ghost reader = { text_at };
+    ghost reader = { λ _. text_at };
 
     fn is_short(&self) -> bool {
         is_short_text(self.bytes())
     }
 
-    fn put(&self, out: &mut Vec<u8>) -> Result<(), NoMemory> {
+    fn put(&self, _format: u8, out: &mut Vec<u8>) -> Result<(), NoMemory> {
         put_text(out, self.bytes())
     }
 
-    fn read(alloc: Global, bytes: &[u8]) -> Result<(Name, &[u8]), Stop> {
+    fn read(alloc: Global, _format: u8, bytes: &[u8]) -> Result<(Name, &[u8]), Stop> {
         name(alloc, bytes)
     }
 }

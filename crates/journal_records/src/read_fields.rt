@@ -49,14 +49,14 @@ pub fn pair(bytes: &[u8]) -> Result<(u64, u64, &[u8]), Stop>
 
 // An integer.
 #[tactic(auto, unfolding(crate::specs::Reading::integer_at, crate::specs::Reading::number64_at))]
-fn integer(bytes: &[u8]) -> Result<(i64, &[u8]), Stop>
+pub fn integer(bytes: &[u8]) -> Result<(i64, &[u8]), Stop>
     ensures { Gives (λ x. (x.0, x.1.now)) result (integer_at bytes.now) }
 {
     let (number, rest) = number64(bytes)?;
     Ok((number.cast_signed(), rest))
 }
 
-fn is_utf8(bytes: &[u8]) -> bool
+pub fn is_utf8(bytes: &[u8]) -> bool
     ensures { result ≡ strings.is_utf8 bytes.now }
 {
     match str::from_utf8(bytes) {
@@ -67,7 +67,7 @@ fn is_utf8(bytes: &[u8]) -> bool
 
 // The bytes of a text.
 #[tactic(auto, unfolding(crate::specs::Reading::text_at))]
-fn text_bytes(bytes: &[u8]) -> Result<(&[u8], &[u8]), Stop>
+pub fn text_bytes(bytes: &[u8]) -> Result<(&[u8], &[u8]), Stop>
     ensures { Gives (λ x. (x.0.now, x.1.now)) result (text_at bytes.now) }
 {
     let (len, rest) = number32(bytes)?;
@@ -100,7 +100,7 @@ fn text(alloc: Global, bytes: &[u8]) -> Result<(Text, &[u8]), Stop>
 
 // A day of the calendar.
 #[tactic(auto, unfolding(crate::specs::Reading::day_at))]
-fn day(bytes: &[u8]) -> Result<(u32, &[u8]), Stop>
+pub fn day(bytes: &[u8]) -> Result<(u32, &[u8]), Stop>
     ensures { Gives (λ x. (x.0, x.1.now)) result (day_at bytes.now) }
 {
     let (day, rest) = number32(bytes)?;

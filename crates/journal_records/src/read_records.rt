@@ -4,13 +4,15 @@ ghost use Rattle.journal_records.specs.Reading.{Gives, load_at, new_part_at, dat
 
 use crate::cause::Cause;
 use crate::choices::{after_tag, flag};
+use crate::format_byte::FORMAT;
 use crate::load::Load;
 use crate::new_job::NewJob;
 use crate::new_part::NewPart;
 use crate::new_table::NewTable;
+use crate::past_rows::encoded_rows;
 use crate::piece::Piece;
 use crate::read_fields::{bound, job, name, number64, pair};
-use crate::read_rows::{row, rows};
+use crate::read_rows::row;
 use crate::record::Record;
 use crate::stop::Stop;
 use dl_values::{Name, Row};
@@ -27,7 +29,7 @@ fn load(alloc: Global, bytes: &[u8]) -> Result<(Load, &[u8]), Stop>
     let (two_phase, rest) = flag(rest)?;
     let (schema, rest) = number64(rest)?;
     let (cancelled, rest) = job(rest)?;
-    let (rows, rest) = rows(alloc, rest)?;
+    let (rows, rest) = encoded_rows(alloc, rest)?;
     let load = Load {
         txn,
         table,
@@ -119,10 +121,10 @@ fn job_cancelled(alloc: Global, bytes: &[u8]) -> Result<(Record, &[u8]), Stop>
     Ok((Record::JobCancelled { job, at, cause }, rest))
 }
 
-// The kinds from 8 on.
+// The kinds from 8 on, in a format.
 #[tactic(auto, unfolding(crate::specs::Reading::later_at))]
-fn later(alloc: Global, bytes: &[u8]) -> Result<(Record, &[u8]), Stop>
-    ensures { Gives (λ x. (x.0, x.1.now)) result (later_at bytes.now) }
+fn later(alloc: Global, format: u8, bytes: &[u8]) -> Result<(Record, &[u8]), Stop>
+    ensures { Gives (λ x. (x.0, x.1.now)) result (later_at format bytes.now) }
 {
     if let Some(rest) = after_tag(bytes, 8) {
         let (txn, at, rest) = pair(rest)?;
@@ -133,7 +135,7 @@ fn later(alloc: Global, bytes: &[u8]) -> Result<(Record, &[u8]), Stop>
         return Ok((Record::Publish { txn, at }, rest));
     }
     if let Some(rest) = after_tag(bytes, 10) {
-        let (job, rest) = NewJob::read(alloc, rest)?;
+        let (job, rest) = NewJob::read(alloc, format, rest)?;
         return Ok((Record::AddJob(job), rest));
     }
     if let Some(rest) = after_tag(bytes, 11) {
@@ -153,17 +155,17 @@ fn later(alloc: Global, bytes: &[u8]) -> Result<(Record, &[u8]), Stop>
     Err(Stop::Left(bytes.len()))
 }
 
-// The byte of the kind, and the fields.
+// The byte of the kind, and the fields, in a format.
 #[tactic(auto, unfolding(crate::specs::Reading::fields_at))]
-fn fields(alloc: Global, bytes: &[u8]) -> Result<(Record, &[u8]), Stop>
-    ensures { Gives (λ x. (x.0, x.1.now)) result (fields_at bytes.now) }
+fn fields(alloc: Global, format: u8, bytes: &[u8]) -> Result<(Record, &[u8]), Stop>
+    ensures { Gives (λ x. (x.0, x.1.now)) result (fields_at format bytes.now) }
 {
     if let Some(rest) = after_tag(bytes, 1) {
         let (name, rest) = name(alloc, rest)?;
         return Ok((Record::CreateDb(name), rest));
     }
     if let Some(rest) = after_tag(bytes, 2) {
-        let (table, rest) = NewTable::read(alloc, rest)?;
+        let (table, rest) = NewTable::read(alloc, format, rest)?;
         return Ok((Record::CreateTable(table), rest));
     }
     if let Some(rest) = after_tag(bytes, 3) {
@@ -185,15 +187,15 @@ fn fields(alloc: Global, bytes: &[u8]) -> Result<(Record, &[u8]), Stop>
     if let Some(rest) = after_tag(bytes, 7) {
         return commit(rest);
     }
-    later(alloc, bytes)
+    later(alloc, format, bytes)
 }
 
 #[tactic(auto, unfolding(crate::specs::Reading::record_at))]
 fn record_from(alloc: Global, bytes: &[u8]) -> Result<(Record, &[u8]), Stop>
     ensures { Gives (λ x. (x.0, x.1.now)) result (record_at bytes.now) }
 {
-    match after_tag(bytes, 1) {
-        Some(rest) => fields(alloc, rest),
+    match after_tag(bytes, FORMAT) {
+        Some(rest) => fields(alloc, FORMAT, rest),
         None => Err(Stop::Left(bytes.len())),
     }
 }

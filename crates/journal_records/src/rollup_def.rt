@@ -21,27 +21,27 @@ impl Piece for RollupDef {
     ghost use Rattle.journal_records.specs.Fitting.{short_rollup};
     ghost use Rattle.journal_records.specs.Reading.{rollup_at};
 
-    ghost spelled = { rollup };
+    ghost spelled = { λ _. rollup };
 
     ghost short = { short_rollup };
 
-    ghost reader = { rollup_at };
+    ghost reader = { λ _. rollup_at };
 
     fn is_short(&self) -> bool {
         is_short_text(self.name.bytes()) && is_short_list(self.columns.as_slice())
     }
 
     #[tactic(auto, unfolding(crate::specs::Spelling::rollup))]
-    fn put(&self, out: &mut Vec<u8>) -> Result<(), NoMemory> {
+    fn put(&self, format: u8, out: &mut Vec<u8>) -> Result<(), NoMemory> {
         put_text(out, self.name.bytes())?;
-        put_list(out, self.columns.as_slice())?;
+        put_list(out, format, self.columns.as_slice())?;
         Ok(())
     }
 
     #[tactic(auto, unfolding(crate::specs::Reading::rollup_at))]
-    fn read(alloc: Global, bytes: &[u8]) -> Result<(RollupDef, &[u8]), Stop> {
+    fn read(alloc: Global, format: u8, bytes: &[u8]) -> Result<(RollupDef, &[u8]), Stop> {
         let (name, rest) = name(alloc, bytes)?;
-        let (columns, rest) = list(alloc, rest)?;
+        let (columns, rest) = list(alloc, format, rest)?;
         Ok((RollupDef { name, columns }, rest))
     }
 }

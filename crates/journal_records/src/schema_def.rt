@@ -31,16 +31,16 @@ impl Piece for SchemaDef {
     }
 
     #[tactic(auto, unfolding(crate::specs::Spelling::schema))]
-    fn put(&self, out: &mut Vec<u8>) -> Result<(), NoMemory> {
-        self.shape.put(out)?;
-        put_list(out, self.origins.as_slice())?;
+    fn put(&self, format: u8, out: &mut Vec<u8>) -> Result<(), NoMemory> {
+        self.shape.put(format, out)?;
+        put_list(out, format, self.origins.as_slice())?;
         Ok(())
     }
 
     #[tactic(auto, unfolding(crate::specs::Reading::schema_at))]
-    fn read(alloc: Global, bytes: &[u8]) -> Result<(SchemaDef, &[u8]), Stop> {
-        let (shape, rest) = ShapeDef::read(alloc, bytes)?;
-        let (origins, rest) = list(alloc, rest)?;
+    fn read(alloc: Global, format: u8, bytes: &[u8]) -> Result<(SchemaDef, &[u8]), Stop> {
+        let (shape, rest) = ShapeDef::read(alloc, format, bytes)?;
+        let (origins, rest) = list(alloc, format, rest)?;
         Ok((SchemaDef { shape, origins }, rest))
     }
 }

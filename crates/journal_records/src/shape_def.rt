@@ -31,16 +31,16 @@ impl Piece for ShapeDef {
     }
 
     #[tactic(auto, unfolding(crate::specs::Spelling::shape))]
-    fn put(&self, out: &mut Vec<u8>) -> Result<(), NoMemory> {
+    fn put(&self, format: u8, out: &mut Vec<u8>) -> Result<(), NoMemory> {
         put_model(out, self.model)?;
-        put_list(out, self.columns.as_slice())?;
+        put_list(out, format, self.columns.as_slice())?;
         Ok(())
     }
 
     #[tactic(auto, unfolding(crate::specs::Reading::shape_at))]
-    fn read(alloc: Global, bytes: &[u8]) -> Result<(ShapeDef, &[u8]), Stop> {
+    fn read(alloc: Global, format: u8, bytes: &[u8]) -> Result<(ShapeDef, &[u8]), Stop> {
         let (model, rest) = model(bytes)?;
-        let (columns, rest) = list(alloc, rest)?;
+        let (columns, rest) = list(alloc, format, rest)?;
         Ok((ShapeDef { model, columns }, rest))
     }
 }

@@ -49,8 +49,8 @@ fn all_short_rows(rows: &Rows) -> bool
     true
 }
 
-fn are_short_rows(rows: &Rows) -> bool
-    ensures { result ≡ fitting.short_list fitting.short_row rows.now }
+pub fn are_short_rows(rows: &Rows) -> bool
+    ensures { result ≡ fitting.short_rows rows.now }
 {
     rows.len() < LIMIT && all_short_rows(rows)
 }
@@ -85,7 +85,7 @@ pub fn is_short(told: &Record) -> bool
     match told {
         Record::CreateDb(name) => is_short_text(name.bytes()),
         Record::CreateTable(table) => table.is_short(),
-        Record::Submit(load) => is_short_text(load.label.bytes()) && are_short_rows(&load.rows),
+        Record::Submit(load) => is_short_text(load.label.bytes()) && load.rows.are_short(),
         Record::AddPartition(part) => is_short_part(part),
         Record::AddJob(job) => job.is_short(),
         Record::JobCancelled { cause, .. } => is_short_cause(cause),

@@ -1,7 +1,10 @@
 // Writing numbers, texts, cells and rows at the end of what is written.
 ghost use Rattle.std.specs.Prelude.{◌≡◌, ◌++◌, OnOk};
+ghost use Rattle.std.specs.List.{AllByRecursion};
 ghost use Rattle.journal_records.specs.Spelling as bytes_of;
+ghost use Rattle.journal_records.specs.Fitting.{InWidth};
 
+use crate::encoded_rows::EncodedRows;
 use dl_values::{Cell, NoMemory, Rows};
 
 #[tactic(auto, unfolding(crate::specs::Spelling::number64))]
@@ -71,7 +74,8 @@ pub fn put_job(out: &mut Vec<u8>, job: Option<u64>) -> Result<(), NoMemory>
 
 #[tactic(auto, unfolding(crate::specs::Spelling::number64))]
 pub fn put_cell(out: &mut Vec<u8>, cell: &Cell) -> Result<(), NoMemory>
-    ensures { OnOk result (out.new.items ≡ out.old.items ++ bytes_of.cell cell.now) }
+    ensures written { OnOk result (out.new.items ≡ out.old.items ++ bytes_of.cell cell.now) }
+    ensures width { OnOk result (InWidth cell.now) }
 {
     match cell {
         Cell::Null => out.push(0)?,
@@ -92,7 +96,8 @@ pub fn put_cell(out: &mut Vec<u8>, cell: &Cell) -> Result<(), NoMemory>
 }
 
 pub fn put_row(out: &mut Vec<u8>, cells: &[Cell]) -> Result<(), NoMemory>
-    ensures { OnOk result (out.new.items ≡ out.old.items ++ bytes_of.row cells.now) }
+    ensures written { OnOk result (out.new.items ≡ out.old.items ++ bytes_of.row cells.now) }
+    ensures width { OnOk result (AllByRecursion InWidth cells.now) }
 {
     put_length(out, cells.len())?;
     for cell in cells {
@@ -103,12 +108,20 @@ pub fn put_row(out: &mut Vec<u8>, cells: &[Cell]) -> Result<(), NoMemory>
 
 #[tactic(auto, unfolding(crate::specs::Spelling::rows))]
 pub fn put_rows(out: &mut Vec<u8>, rows: &Rows) -> Result<(), NoMemory>
-    ensures { OnOk result (out.new.items ≡ out.old.items ++ bytes_of.rows rows.now) }
+    ensures written { OnOk result (out.new.items ≡ out.old.items ++ bytes_of.rows rows.now) }
+    ensures width { OnOk result (AllByRecursion (AllByRecursion InWidth) rows.now) }
 {
     put_length(out, rows.len())?;
     for place in 0..rows.len() {
         put_row(out, rows.row(place))?;
     }
+    Ok(())
+}
+
+pub fn put_encoded(out: &mut Vec<u8>, rows: &EncodedRows) -> Result<(), NoMemory>
+    ensures { OnOk result (out.new.items ≡ out.old.items ++ bytes_of.rows rows.now) }
+{
+    out.extend_from_slice(rows.bytes())?;
     Ok(())
 }
 

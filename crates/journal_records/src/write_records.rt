@@ -3,12 +3,13 @@ ghost use Rattle.std.specs.Prelude.{◌≡◌, ◌++◌, OnOk, ◌∷◌};
 ghost use Rattle.journal_records.specs.Spelling as bytes_of;
 
 use crate::cause::Cause;
+use crate::format_byte::FORMAT;
 use crate::load::Load;
 use crate::new_part::NewPart;
 use crate::piece::Piece;
 use crate::record::Record;
 use crate::write_fields::{
-    put_bound, put_flag, put_job, put_number64, put_pair, put_row, put_rows, put_text,
+    put_bound, put_encoded, put_flag, put_job, put_number64, put_pair, put_row, put_text,
 };
 use dl_values::{Cell, NoMemory};
 
@@ -23,7 +24,7 @@ fn put_load(out: &mut Vec<u8>, load: &Load) -> Result<(), NoMemory>
     put_flag(out, load.two_phase)?;
     put_number64(out, load.schema)?;
     put_job(out, load.cancelled)?;
-    put_rows(out, &load.rows)?;
+    put_encoded(out, &load.rows)?;
     Ok(())
 }
 
@@ -73,9 +74,9 @@ fn put_tag(out: &mut Vec<u8>, tag: u8, first: u64, second: u64) -> Result<(), No
     Ok(())
 }
 
-// The byte of the kind, and the fields.
-fn put_fields(out: &mut Vec<u8>, told: &Record) -> Result<(), NoMemory>
-    ensures { OnOk result (out.new.items ≡ out.old.items ++ bytes_of.fields told.now) }
+// The byte of the kind, and the fields, in a format.
+fn put_fields(out: &mut Vec<u8>, format: u8, told: &Record) -> Result<(), NoMemory>
+    ensures { OnOk result (out.new.items ≡ out.old.items ++ bytes_of.fields format told.now) }
 {
     match told {
         Record::CreateDb(name) => {
@@ -84,7 +85,7 @@ fn put_fields(out: &mut Vec<u8>, told: &Record) -> Result<(), NoMemory>
         }
         Record::CreateTable(table) => {
             out.push(2)?;
-            table.put(out)?;
+            table.put(format, out)?;
         }
         Record::DropTable { table, at } => put_tag(out, 3, *table, *at)?,
         Record::AddPartition(part) => {
@@ -107,7 +108,7 @@ fn put_fields(out: &mut Vec<u8>, told: &Record) -> Result<(), NoMemory>
         Record::Publish { txn, at } => put_tag(out, 9, *txn, *at)?,
         Record::AddJob(job) => {
             out.push(10)?;
-            job.put(out)?;
+            job.put(format, out)?;
         }
         Record::JobWaiting {
             job,
@@ -134,7 +135,7 @@ fn put_fields(out: &mut Vec<u8>, told: &Record) -> Result<(), NoMemory>
 pub fn put_record(out: &mut Vec<u8>, told: &Record) -> Result<(), NoMemory>
     ensures { OnOk result (out.new.items ≡ out.old.items ++ bytes_of.spelling told.now) }
 {
-    out.push(1)?;
-    put_fields(out, told)?;
+    out.push(FORMAT)?;
+    put_fields(out, FORMAT, told)?;
     Ok(())
 }

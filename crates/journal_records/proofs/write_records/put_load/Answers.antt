@@ -7,7 +7,7 @@ pub returns : goal.returns
 unfolding load
 returns c =
     let l = c.args.load.now in
-    let q = c.put_rows.new.out.items in
+    let q = c.put_encoded.new.out.items in
     let o0 = c.args.out.now.items in
     let o1 = c.put_number64.new.out.items in
     let o2 = c.put_number64-2.new.out.items in
@@ -30,4 +30,4 @@ returns c =
     (then o3 o4 q (number64 l.at) b3 c.in_ok-put_number64-3.ensures
     (then o4 o5 q (flag l.two_phase) b4 c.in_ok-put_flag.ensures
     (then o5 o6 q (number64 l.schema) b5 c.in_ok-put_number64-4.ensures
-    (then o6 o7 q (optional number64 l.cancelled) b6 c.in_ok-put_job.ensures c.in_ok-put_rows.ensures))))))
+    (then o6 o7 q (optional number64 l.cancelled) b6 c.in_ok-put_job.ensures c.in_ok-put_encoded.ensures))))))
