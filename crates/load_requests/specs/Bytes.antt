@@ -17,9 +17,6 @@ is_digit b = nat_le 48 b && nat_le b 57
 abbrev pub in_word : ℕ → Bool
 in_word b = begins_word b || is_digit b
 
-abbrev pub is_zero : ℕ → Bool
-is_zero b = b == 48
-
 -- no backquote
 abbrev pub in_quotes : ℕ → Bool
 in_quotes b = not (b == 96)
@@ -35,7 +32,6 @@ abbrev pub is_of : Class → ℕ → Bool
 is_of class.Blank = is_blank
 is_of class.Word = in_word
 is_of class.Digit = is_digit
-is_of class.Zero = is_zero
 is_of class.Quoted = in_quotes
 is_of class.Path = in_path
 is_of class.Part = λ b. not (is_slash b)

@@ -2,11 +2,11 @@
 -- TABLE", "SELECT"): what tokens are one, and what it asks for.
 --
 --     CREATE DATABASE name [;]
---     CREATE TABLE name (name TYPE, ..) DUPLICATE KEY (name, ..) DISTRIBUTED BY HASH (name, ..) BUCKETS 1 [;]
+--     CREATE TABLE name (name TYPE, ..) DUPLICATE KEY (name, ..) DISTRIBUTED BY HASH (name, ..) BUCKETS integer [;]
 --     SELECT * FROM name [;]
-use Rattle.std.specs.Prelude.{◌≡◌, ℕ, ◌&&◌, Bool, true, false, not, List, [], ◌∷◌, drop, codes, Option, Some, None, Result, Ok, Err, if◌then◌else◌}
-use Rattle.std.specs.List.{list_any, prefix_len}
-use Rattle.std.specs.Str.{bytes_eq, str_eq_ignore_ascii_case}
+use Rattle.std.specs.Prelude.{◌≡◌, ℕ, ◌&&◌, Bool, true, false, not, List, [], ◌∷◌, codes, Option, Some, None, Result, Ok, Err, if◌then◌else◌}
+use Rattle.std.specs.List.{list_any}
+use Rattle.std.specs.Str.{str_eq_ignore_ascii_case}
 use Rattle.dl_values.specs.declared.col_type.ColType.{ColType}
 use Rattle.dl_values.specs.declared.col_type.ColType.TheVariants as type
 use Rattle.schema_models.specs.declared.model.Model.TheVariants as model
@@ -18,7 +18,8 @@ use Rattle.load_requests.specs.declared.statement.Statement.{Statement}
 use Rattle.load_requests.specs.declared.statement.Statement.TheVariants as statement
 use Rattle.load_requests.specs.declared.stop.Stop.{Stop}
 use Rattle.load_requests.specs.declared.stop.Stop.TheVariants as stop
-use Rattle.load_requests.specs.Bytes.{begins_word, is_zero}
+use Rattle.load_requests.specs.Bytes.{begins_word}
+use Rattle.load_requests.specs.Ends.{number_of}
 use Rattle.load_requests.specs.Tokens.{Token, tokens_of}
 
 -- the words that are no names
@@ -49,14 +50,11 @@ is_name (kind.Plain, bytes) = is_word bytes && not (is_reserved bytes)
 is_name (kind.Quoted, bytes) = true
 is_name (kind.Number, bytes) = false
 
--- digits that write the number 1: any number of zeros, and then a 1
-abbrev pub writes_one : List ℕ → Bool
-writes_one digits = bytes_eq (drop (prefix_len is_zero digits) digits) (codes "1")
-
-abbrev pub is_one : Token → Bool
-is_one (kind.Plain, bytes) = false
-is_one (kind.Quoted, bytes) = false
-is_one (kind.Number, bytes) = writes_one bytes
+-- the number that a token of 1 to 19 digits writes
+abbrev pub count_of : Token → Option ℕ
+count_of (kind.Plain, bytes) = None
+count_of (kind.Quoted, bytes) = None
+count_of (kind.Number, bytes) = number_of bytes
 
 -- ---- reading from left to right: a value, and the tokens behind what says it
 
@@ -98,9 +96,13 @@ column_at = do
   kind ← type_at
   is (record { name = name; kind = kind; nullable = true })
 
-unfoldable pub one_at : Reader (Unit {0})
-one_at [] = None
-one_at (t ∷ ts) = if is_one t then Some (tt, ts) else None
+abbrev pub counted : Option ℕ → Reader ℕ
+counted None rest = None
+counted (Some n) rest = Some (n, rest)
+
+unfoldable pub count_at : Reader ℕ
+count_at [] = None
+count_at (t ∷ ts) = counted (count_of t) ts
 
 -- whether a comma comes, or else the closing parenthesis
 unfoldable pub comma_at : Reader Bool
@@ -166,8 +168,8 @@ table_def_at = do
   key ← key_clause_at
   hash ← hash_at
   plain_at (codes "BUCKETS")
-  one_at
-  is (record { columns = columns; key = Some key; hash = hash; buckets = Some 1 })
+  buckets ← count_at
+  is (record { columns = columns; key = Some key; hash = hash; buckets = Some buckets })
 
 unfoldable pub create_table_at : Reader Statement
 create_table_at = do

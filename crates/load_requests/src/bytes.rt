@@ -13,7 +13,6 @@ pub enum Class {
     Word,
     Digit,
     /// The digit 0.
-    Zero,
     /// All but a backquote.
     Quoted,
     /// All but `?`.
@@ -55,7 +54,6 @@ fn is_of(class: Class, b: u8) -> bool
         Class::Blank => is_blank(b),
         Class::Word => in_word(b),
         Class::Digit => is_digit(b),
-        Class::Zero => b == b'0',
         Class::Quoted => b != b'`',
         Class::Path => b != b'?',
         Class::Part => b != b'/',

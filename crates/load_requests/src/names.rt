@@ -2,9 +2,10 @@
 ghost use Rattle.std.specs.Prelude.{◌≡◌};
 ghost use Rattle.std.specs.List.{list_any};
 ghost use Rattle.std.specs.Str.{str_eq_ignore_ascii_case};
-ghost use Rattle.load_requests.specs.Statements.{is_reserved, is_plain, is_name, is_word, is_one, writes_one};
+ghost use Rattle.load_requests.specs.Statements.{is_reserved, is_plain, is_name, is_word, count_of};
 
-use crate::bytes::{Class, begins_word, is_same, run_length};
+use crate::bytes::{begins_word, is_same};
+use crate::numbers::number_of;
 use crate::token::Kind;
 
 const RESERVED: [&[u8]; 33] = [
@@ -85,19 +86,12 @@ pub fn is_name(kind: Kind, bytes: &[u8]) -> bool
     }
 }
 
-// Whether digits write the number 1.
-fn writes_one(digits: &[u8]) -> bool
-    ensures { result ≡ writes_one digits.now }
-{
-    &digits[run_length(Class::Zero, digits)..] == b"1".as_slice()
-}
-
-/// Whether a token is the number 1.
-pub fn is_one(kind: Kind, bytes: &[u8]) -> bool
-    ensures { result ≡ is_one (kind, bytes.now) }
+/// The number that a token of 1 to 19 digits writes.
+pub fn count_of(kind: Kind, bytes: &[u8]) -> Option<u64>
+    ensures { result ≡ count_of (kind, bytes.now) }
 {
     match kind {
-        Kind::Number => writes_one(bytes),
-        Kind::Plain | Kind::Quoted => false,
+        Kind::Number => number_of(bytes),
+        Kind::Plain | Kind::Quoted => None,
     }
 }

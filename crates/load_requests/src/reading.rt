@@ -1,9 +1,9 @@
 // Reading a statement from left to right.
 ghost use Rattle.std.specs.Prelude.{◌≡◌, IfOk};
 ghost use Rattle.load_requests.specs.Tokens.{tokens_of};
-ghost use Rattle.load_requests.specs.Statements.{Gives, plain_at, name_at, type_at, one_at, comma_at, names_at, columns_at, column_at, is_end, create_db_at, key_clause_at, hash_at, table_def_at, create_table_at, select_at, ended, statement_of};
+ghost use Rattle.load_requests.specs.Statements.{Gives, plain_at, name_at, type_at, count_at, comma_at, names_at, columns_at, column_at, is_end, create_db_at, key_clause_at, hash_at, table_def_at, create_table_at, select_at, ended, statement_of};
 
-use crate::names::{is_name, is_one, is_plain};
+use crate::names::{count_of, is_name, is_plain};
 use crate::statement::Statement;
 use crate::stop::Stop;
 use crate::token::first_token;
@@ -63,19 +63,16 @@ fn column_type(text: &[u8]) -> Result<(ColType, &[u8]), Stop>
     }
 }
 
-#[tactic(auto, unfolding(crate::specs::Statements::one_at))]
-fn one(text: &[u8]) -> Result<&[u8], Stop>
-    ensures { Gives (λ rest. (tt, tokens_of rest.now)) result (one_at (tokens_of text.now)) }
+#[tactic(auto, unfolding(crate::specs::Statements::count_at))]
+fn count(text: &[u8]) -> Result<(u64, &[u8]), Stop>
+    ensures { Gives (λ x. (x.0, tokens_of x.1.now)) result (count_at (tokens_of text.now)) }
 {
     match first_token(text) {
         None => Err(Stop::Absent),
-        Some((kind, bytes, rest)) => {
-            if is_one(kind, bytes) {
-                Ok(rest)
-            } else {
-                Err(Stop::Absent)
-            }
-        }
+        Some((kind, bytes, rest)) => match count_of(kind, bytes) {
+            None => Err(Stop::Absent),
+            Some(number) => Ok((number, rest)),
+        },
     }
 }
 
@@ -183,12 +180,12 @@ fn table_def(alloc: Global, text: &[u8]) -> Result<(PlainDef, &[u8]), Stop>
     let (key, rest) = key_clause(alloc, rest)?;
     let (hash, rest) = hash(alloc, rest)?;
     let rest = skip(rest, b"BUCKETS")?;
-    let rest = one(rest)?;
+    let (buckets, rest) = count(rest)?;
     let def = PlainDef {
         columns,
         key: Some(key),
         hash,
-        buckets: Some(1),
+        buckets: Some(buckets),
     };
     Ok((def, rest))
 }

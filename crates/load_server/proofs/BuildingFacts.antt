@@ -20,7 +20,8 @@ use Rattle.shadow_writes.specs.declared.built.TabletRows.{TabletRows}
 use Rattle.front_defs.specs.Indexes.{Index, mapped_index}
 use Rattle.front_defs.specs.May.{AllMapped, MappedOf, SetsOf, TargetsOf, seen_set}
 use Rattle.front_defs.specs.Stored.{PlacedRows, sets_of}
-use Rattle.load_server.specs.Building.{IsBuiltOf, IsBuilding}
+use Rattle.load_build.specs.Building.{IsBuiltOf}
+use Rattle.load_server.specs.Building.{IsBuilding}
 
 -- ---- the rows of tablets, at the places in memory that others show
 

@@ -1,7 +1,6 @@
 pub mod Going
 pub mod Answering
 pub mod BuildingFacts
-pub mod OneTablet
 pub mod RowsOfBodies
 pub mod Loads
 pub mod Selecting

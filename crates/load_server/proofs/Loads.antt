@@ -11,7 +11,7 @@ use Rattle.front_defs.specs.Stored.{AreRowsOf}
 use Rattle.front_defs.specs.Script.{Asks}
 use Rattle.shadow_writes.specs.declared.built.Built.{Built}
 use Rattle.shadow_writes.specs.declared.plan.Plan.{Plan}
-use Rattle.load_server.specs.Building.{IsBuiltOf}
+use Rattle.load_build.specs.Building.{IsBuiltOf}
 use Rattle.load_server.specs.Preparing.{Prepares}
 use Rattle.load_server.specs.Reports.{failed, too_many_filtered, too_many_rows}
 use Rattle.load_server.specs.Scripts.{aborting, after_submit, parsed_by, reading, submitting}

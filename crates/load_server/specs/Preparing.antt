@@ -6,7 +6,7 @@ use Rattle.csv_load.specs.Refusal.{max_records}
 use Rattle.csv_load.specs.declared.options.Options.{Options}
 use Rattle.csv_load.specs.declared.parsed.Parsed.{Parsed}
 use Rattle.shadow_writes.specs.declared.plan.Plan.{Plan}
-use Rattle.load_server.specs.Building.{IsBuiltOf}
+use Rattle.load_build.specs.Building.{IsBuiltOf}
 use Rattle.load_server.specs.Scripts.{parsed_by}
 use Rattle.load_server.specs.declared.prepare.Prepared.{Prepared}
 use Rattle.load_server.specs.declared.prepare.Prepared.TheVariants as prepared

@@ -5,7 +5,6 @@
 
 mod abort;
 mod answer;
-mod build;
 mod end_report;
 mod ending;
 mod exchange;

@@ -2,11 +2,11 @@
 ghost use Rattle.std.specs.Prelude.{◌≡◌};
 ghost use Rattle.load_server.specs.Preparing.{Prepares};
 
-use crate::build::build;
 use crate::places::Places;
 use crate::report::Counts;
 use csv_load::{BodyFault, Options, Parsed, fails, read_body};
 use dl_values::NoMemory;
+use load_build::build_load;
 use shadow_writes::{Built, Plan};
 use std::alloc::Global;
 
@@ -61,8 +61,8 @@ fn judge(alloc: Global, plan: Plan, options: &Options, parsed: Parsed) -> Prepar
     if fails(counts.filtered, counts.total, options.ratio) {
         return Prepared::TooManyFiltered { counts };
     }
-    match build(alloc, plan, parsed.rows) {
+    match build_load(alloc, plan, parsed.rows) {
         Ok(built) => Prepared::Ready { built, counts },
-        Err(NoMemory) => Prepared::NoMemory,
+        Err((_plan, NoMemory)) => Prepared::NoMemory,
     }
 }

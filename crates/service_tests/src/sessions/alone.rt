@@ -1,12 +1,15 @@
 // A session over a core that no others share.
 ghost use Rattle.std.specs.Prelude.{◌≡◌, ◌<◌};
 
-use super::texts::{CONTINUE, CREATE, CREATE_TABLE, DONE, LOAD, LOADED, ROWS, SELECT, USED};
+use super::texts::{
+    CONTINUE, CREATE, CREATE_SPREAD, CREATE_TABLE, DONE, LOAD, LOADED, ROWS, SELECT, USED,
+};
 use dl_outside::{ListClock, MemorySink, MemorySource, Steps};
 use dl_values::NoMemory;
 use load_server::{SessionEnd, Solo, session};
 use std::alloc::Global;
 use std::marker::Brand;
+use std::process::Abort;
 use std::sync::ledger::{Blank, Ledger};
 use std::test::Fail;
 
@@ -48,13 +51,22 @@ fn joined(alloc: Global, parts: &[&[u8]]) -> Result<Vec<u8>, NoMemory> {
     Ok(all)
 }
 
-#[test]
-fn a_core_alone_answers_a_load_and_its_retry(rt: HostRuntime) -> Result<(), Fail> {
-    let alloc = rt.alloc();
-    let input = joined(alloc, &[CREATE, CREATE_TABLE, LOAD, LOAD, SELECT])?;
+// A database, a table, a load, the load again, and a query.
+fn are_loaded_once(rt: &impl Abort, alloc: Global, table: &[u8]) -> Result<(), Fail> {
+    let input = joined(alloc, &[CREATE, table, LOAD, LOAD, SELECT])?;
     let wanted = joined(alloc, &[DONE, DONE, CONTINUE, LOADED, CONTINUE, USED, ROWS])?;
     let (end, written) = alone(alloc, input)?;
     assert_eq!(rt; end, SessionEnd::Done);
     assert_eq!(rt; written.as_slice(), wanted.as_slice());
     Ok(())
+}
+
+#[test]
+fn a_core_alone_answers_a_load_and_its_retry(rt: HostRuntime) -> Result<(), Fail> {
+    are_loaded_once(&rt, rt.alloc(), CREATE_TABLE)
+}
+
+#[test]
+fn a_load_over_four_buckets_is_answered_as_one_over_one(rt: HostRuntime) -> Result<(), Fail> {
+    are_loaded_once(&rt, rt.alloc(), CREATE_SPREAD)
 }

@@ -29,6 +29,9 @@ pub const CREATE: &[u8] =
 pub const CREATE_TABLE: &[u8] =
     b"POST /api/query/internal/d HTTP/1.1\r\nContent-Length: 90\r\n\r\n{\"stmt\":\"CREATE TABLE t (k INT, v INT) DUPLICATE KEY(k) DISTRIBUTED BY HASH(k) BUCKETS 1\"}";
 
+pub const CREATE_SPREAD: &[u8] =
+    b"POST /api/query/internal/d HTTP/1.1\r\nContent-Length: 90\r\n\r\n{\"stmt\":\"CREATE TABLE t (k INT, v INT) DUPLICATE KEY(k) DISTRIBUTED BY HASH(k) BUCKETS 4\"}";
+
 pub const SELECT: &[u8] =
     b"POST /api/query/internal/d HTTP/1.1\r\nContent-Length: 26\r\n\r\n{\"stmt\":\"SELECT * FROM t\"}";
 

@@ -23,6 +23,10 @@ fn add_names(line: &mut Vec<u8>, names: &[Name]) -> Result<(), NoMemory> {
     Ok(())
 }
 
+fn add_number(line: &mut Vec<u8>, number: u64) -> Result<(), NoMemory> {
+    add(line, &[Buffer::new().format(number).as_bytes()])
+}
+
 fn add_table(line: &mut Vec<u8>, def: &PlainDef) -> Result<(), NoMemory> {
     for column in def.columns.as_slice() {
         let kind: &[u8] = match column.kind {
@@ -37,11 +41,14 @@ fn add_table(line: &mut Vec<u8>, def: &PlainDef) -> Result<(), NoMemory> {
         add_names(line, key.names.as_slice())?;
     }
     add(line, &[b" hash"])?;
-    add_names(line, def.hash.as_slice())
-}
-
-fn add_number(line: &mut Vec<u8>, number: u64) -> Result<(), NoMemory> {
-    add(line, &[Buffer::new().format(number).as_bytes()])
+    add_names(line, def.hash.as_slice())?;
+    match def.buckets {
+        None => Ok(()),
+        Some(buckets) => {
+            add(line, &[b" buckets "])?;
+            add_number(line, buckets)
+        }
+    }
 }
 
 fn add_options(line: &mut Vec<u8>, options: &Options) -> Result<(), NoMemory> {

@@ -84,15 +84,23 @@ const STATEMENTS: &[Asked] = &[
     ("select * from `t`  ", "select d t"),
     (
         "CREATE TABLE t (k INT, v BIGINT) DUPLICATE KEY(k) DISTRIBUTED BY HASH(k) BUCKETS 1",
-        "table d t k INT v BIGINT key k hash k",
+        "table d t k INT v BIGINT key k hash k buckets 1",
     ),
     (
         "create table t(`k 1`int)duplicate key(`k 1`)distributed by hash(`k 1`,b)buckets 001;",
-        "table d t k 1 INT key k 1 hash k 1 b",
+        "table d t k 1 INT key k 1 hash k 1 b buckets 1",
     ),
     (
         "CREATE TABLE t (k INT, v BIGINT) DUPLICATE KEY(v, k) DISTRIBUTED BY HASH(v, k) BUCKETS 1",
-        "table d t k INT v BIGINT key v k hash v k",
+        "table d t k INT v BIGINT key v k hash v k buckets 1",
+    ),
+    (
+        "CREATE TABLE t (k INT) DUPLICATE KEY(k) DISTRIBUTED BY HASH(k) BUCKETS 0",
+        "table d t k INT key k hash k buckets 0",
+    ),
+    (
+        "CREATE TABLE t (k INT) DUPLICATE KEY(k) DISTRIBUTED BY HASH(k) BUCKETS 9999999999999999999",
+        "table d t k INT key k hash k buckets 9999999999999999999",
     ),
     (
         "CREATE TABLE t (k INT, v BIGINT) DUPLICATE KEY(k) DISTRIBUTED BY HASH(k) BUCKETS1",
@@ -161,7 +169,7 @@ const OTHERS: &[Asked] = &[
         REFUSED,
     ),
     (
-        "CREATE TABLE t (k INT) DUPLICATE KEY(k) DISTRIBUTED BY HASH(k) BUCKETS 2",
+        "CREATE TABLE t (k INT) DUPLICATE KEY(k) DISTRIBUTED BY HASH(k) BUCKETS 12345678901234567890",
         REFUSED,
     ),
     (
@@ -203,7 +211,7 @@ fn a_table_without_one_of_its_words_is_no_statement(rt: HostRuntime) -> Result<(
         let wanted: &str = if left_out < TABLE.len() {
             "bad statement: Unsupported name=stmt"
         } else {
-            "table d t k INT v BIGINT key k hash k"
+            "table d t k INT v BIGINT key k hash k buckets 1"
         };
         assert_eq!(rt; found.as_slice(), wanted.as_bytes());
     }
