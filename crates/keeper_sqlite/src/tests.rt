@@ -53,6 +53,10 @@ const FOLDER: &str = "keeper_sqlite_test";
 
 const PATH: &str = "keeper_sqlite_test/journal";
 
+const NO_JOURNALS: &str = "keeper_sqlite_test_none";
+
+const TEXT: &str = "keeper_sqlite_test_none/text";
+
 fn has<K: Keeper>(keeper: &mut K, place: u64, bytes: &[u8]) -> bool {
     match keeper.read_from(place) {
         Ok(Some(record)) => record.as_slice() == bytes,
@@ -167,5 +171,27 @@ fn a_file_is_opened_once_it_can_be_and_has_its_records_again(rt: HostRuntime) ->
     drop(keeper);
     assert_eq!(rt; first_wrong(&mut at_path(rt)?, &LATER), None);
     fs::remove_dir_all(&rt, FOLDER)?;
+    Ok(())
+}
+
+fn is_fault_of_each_call<K: Keeper>(keeper: &mut K) -> bool {
+    is_fault(keeper.append(b"one"))
+        && is_fault(keeper.replace(b"one"))
+        && matches!(keeper.read_from(0), Err(KeeperError::Failed))
+}
+
+#[test]
+fn a_folder_and_a_text_keep_nothing_and_are_left_alone(rt: HostRuntime) -> Result<(), Fail> {
+    let _ = fs::remove_dir_all(&rt, NO_JOURNALS);
+    fs::create_dir(&rt, NO_JOURNALS)?;
+    let text = [b'a'; 4096];
+    fs::write(&rt, TEXT, text.as_slice())?;
+    for path in [NO_JOURNALS, TEXT] {
+        let mut keeper = FileKeeper::open(rt, String::from_str(rt.alloc(), path)?);
+        assert!(rt; is_fault_of_each_call(&mut keeper));
+        assert_eq!(rt; keeper.faults(), 3);
+    }
+    assert_eq!(rt; fs::read(&rt, TEXT)?.as_slice(), text.as_slice());
+    fs::remove_dir_all(&rt, NO_JOURNALS)?;
     Ok(())
 }
