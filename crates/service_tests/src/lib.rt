@@ -1,4 +1,4 @@
-//! Tests of the words of the program, of the texts of replies, of sessions and of runs.
+//! Tests of runs of the program.
 #![tactic(auto)]
 
 #[cfg(test)]
@@ -6,10 +6,4 @@ mod answers;
 #[cfg(test)]
 mod runs;
 #[cfg(test)]
-mod sessions;
-#[cfg(test)]
-mod texts;
-#[cfg(test)]
 mod types;
-#[cfg(test)]
-mod words;
