@@ -1,6 +1,8 @@
 // A keeper in memory.
-ghost use Rattle.std.specs.Prelude.{◌≡◌, ◌<◌, ◌^◌, ◌∷◌, ◌++◌, [], length, IfOk, OnErr, OnOk, IsErrOf};
-ghost use Rattle.record_keeper.specs.Memory.{told_records, few_are_told};
+ghost use Rattle.std.specs.Prelude.{◌≡◌, ◌≤◌, ◌<◌, ◌^◌, ◌∷◌, ◌++◌, [], length, slice_get, IfOk, OnErr, OnOk, IsErrOf};
+ghost use Rattle.dl_outside.specs.Faults.{HasRisen};
+ghost use Rattle.record_keeper.specs.Keeping.{Appends, ReadsAt, Replaces};
+ghost use Rattle.record_keeper.specs.Memory.{told_records, few_are_told, planned_in, Leaves};
 
 use crate::{Keeper, KeeperError};
 use sqlite_items::Items;
@@ -34,7 +36,7 @@ impl Model for MemoryKeeper {
 
     ghost Value = { MemoryView };
 
-    ghost view = { λ k. record { records = k.records; faults = k.failures } };
+    ghost view = { λ k. record { records = k.records; faults = k.failures; calls = k.calls; fails = k.fails.items } };
 
     ghost invariant = { λ k. length k.records < 2 ^ 63 };
 }
@@ -42,7 +44,7 @@ impl Model for MemoryKeeper {
 impl MemoryKeeper {
     /// A keeper without records, of which these calls fail.
     pub fn new(alloc: Global, fails: Vec<FailingCall>) -> MemoryKeeper
-        ensures { result ≡ record { records = []; faults = 0 } }
+        ensures { result ≡ record { records = []; faults = 0; calls = 0; fails = fails.items } }
     {
         MemoryKeeper {
             alloc,
@@ -73,7 +75,12 @@ impl Keeper for MemoryKeeper {
 
     ghost faults = { λ k. k.faults };
 
-    fn append(&mut self, bytes: &[u8]) -> Result<(), KeeperError> {
+    fn append(&mut self, bytes: &[u8]) -> Result<(), KeeperError>
+        ensures told { Appends (told_records self.old) bytes.now (told_records self.new) result }
+        ensures later { self.old.faults ≤ self.new.faults }
+        ensures cause { IsErrOf result KeeperError.Failed → HasRisen self.old.faults self.new.faults }
+        ensures planned { Leaves self.old (self.old.records ++ bytes.now ∷ []) self.new result }
+    {
         let planned = planned(&self.fails, self.calls);
         self.calls = self.calls.saturating_add(1);
         match planned {
@@ -88,7 +95,13 @@ impl Keeper for MemoryKeeper {
         }
     }
 
-    fn read_from(&mut self, place: u64) -> Result<Option<Items<u8>>, KeeperError> {
+    fn read_from(&mut self, place: u64) -> Result<Option<Items<u8>>, KeeperError>
+        ensures told { ReadsAt (told_records self.old) place (told_records self.new) result }
+        ensures later { self.old.faults ≤ self.new.faults }
+        ensures cause { IsErrOf result KeeperError.Failed → HasRisen self.old.faults self.new.faults }
+        ensures planned { Leaves self.old self.old.records self.new result }
+        ensures found { IfOk result (λ found. slice_get self.old.records place ≡ found) }
+    {
         let planned = planned(&self.fails, self.calls);
         self.calls = self.calls.saturating_add(1);
         if planned.is_some() {
@@ -101,7 +114,12 @@ impl Keeper for MemoryKeeper {
         }
     }
 
-    fn replace(&mut self, bytes: &[u8]) -> Result<(), KeeperError> {
+    fn replace(&mut self, bytes: &[u8]) -> Result<(), KeeperError>
+        ensures told { Replaces (told_records self.old) bytes.now (told_records self.new) result }
+        ensures later { self.old.faults ≤ self.new.faults }
+        ensures cause { IsErrOf result KeeperError.Failed → HasRisen self.old.faults self.new.faults }
+        ensures planned { Leaves self.old (bytes.now ∷ []) self.new result }
+    {
         let planned = planned(&self.fails, self.calls);
         self.calls = self.calls.saturating_add(1);
         match planned {
@@ -123,7 +141,9 @@ impl Keeper for MemoryKeeper {
 }
 
 // Whether the call with this number fails, and then whether what it was to keep is kept.
-fn planned(fails: &[FailingCall], call: u64) -> Option<bool> {
+fn planned(fails: &[FailingCall], call: u64) -> Option<bool>
+    ensures { result ≡ planned_in fails.now call }
+{
     for one in fails {
         if one.call == call {
             return Some(one.kept);
