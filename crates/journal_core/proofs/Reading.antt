@@ -1,5 +1,5 @@
 -- What was read of a journal so far.
-use Rattle.std.proofs.Common.{◌≡◌, ℕ, ◌+◌, ◌-◌, ◌^◌, ◌<◌, ◌≤◌, List, [], ◌∷◌, ◌++◌, map, length, Some, None, Ok, Err, refl, sym, ap, subst, ◌∙◌, append_assoc, arith}
+use Rattle.std.proofs.Common.{◌≡◌, ℕ, ◌+◌, ◌-◌, ◌^◌, ◌<◌, ◌≤◌, List, [], ◌∷◌, ◌++◌, map, length, Option, Some, None, Ok, Err, refl, sym, ap, subst, ◌∙◌, append_assoc, arith}
 use Rattle.std.specs.List.{slice_get}
 use Rattle.std.proofs.lemmas.List.{append-nil, length-append, map_push}
 use Rattle.std.proofs.lemmas.Option.{slice_get_within}
@@ -137,8 +137,12 @@ first_of old None seq r = tt
 first_of None (Some now) seq r = absurd r
 first_of (Some before) (Some now) seq r = r.1
 
-pub has_cause : (old new : Records) (place before mid now : ℕ) (e : JournalError) → place < 2 ^ 63 → before ≤ mid → ReadHasCause place mid now (Err e) → Replays old new (Err e) → ReplayHasCause new before now (Err e)
-has_cause old new place before mid now journal.KeeperFault lt le c r = omega (arith, le, c)
-has_cause old new place before mid now (journal.BadJournal seq) lt le c r = (omega (arith, c), omega (arith, c, lt), first_of old new seq r)
-has_cause old new place before mid now journal.TooLong lt le c r = absurd c
-has_cause old new place before mid now journal.NoMemory lt le c r = tt
+pub has_cause : (old new : Records) (place before mid now : ℕ) (e : JournalError) → place < 2 ^ 63 → mid ≡ before → ReadHasCause place mid now (Err e) → Replays old new (Err e) → ReplayHasCause new before now (Err e)
+has_cause old new place before mid now journal.KeeperFault lt same c r = omega (arith, same, c)
+has_cause old new place before mid now (journal.BadJournal seq) lt same c r = (c.0 ∙ same, omega (arith, c.1), omega (arith, c.1, lt), first_of old new seq r)
+has_cause old new place before mid now journal.TooLong lt same c r = absurd c
+has_cause old new place before mid now journal.NoMemory lt same c r = c ∙ same
+
+pub still : (place mid now : ℕ) (found : Option Record) → ReadHasCause place mid now (Ok found) → now ≡ mid
+still place mid now None c = c
+still place mid now (Some told) c = c.0

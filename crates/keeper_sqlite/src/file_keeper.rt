@@ -1,7 +1,7 @@
 // A keeper over a file.
 ghost use Rattle.std.specs.Prelude.{◌≡◌, ◌≤◌, None, IsErrOf};
 ghost use Rattle.dl_outside.specs.Faults.{HasRisen};
-ghost use Rattle.record_keeper.specs.Keeping.{Appends, ReadsAt, Replaces};
+ghost use Rattle.record_keeper.specs.Keeping.{Appends, CountsFaults, ReadsAt, Replaces};
 ghost use Rattle.keeper_sqlite.specs.Counted.{Counts, none_are_few};
 
 use crate::count::counted;
@@ -62,6 +62,7 @@ impl Keeper for FileKeeper {
         ensures told { Appends None bytes.now None result }
         ensures later { self.old.faults ≤ self.new.faults }
         ensures cause { IsErrOf result KeeperError.Failed → HasRisen self.old.faults self.new.faults }
+        ensures counted { CountsFaults self.old.faults self.new.faults result }
         ensures counts { Counts self.old.faults self.new.faults result }
     {
         counted(self.file.append(bytes), &mut self.failures)
@@ -71,6 +72,7 @@ impl Keeper for FileKeeper {
         ensures told { ReadsAt None place None result }
         ensures later { self.old.faults ≤ self.new.faults }
         ensures cause { IsErrOf result KeeperError.Failed → HasRisen self.old.faults self.new.faults }
+        ensures counted { CountsFaults self.old.faults self.new.faults result }
         ensures counts { Counts self.old.faults self.new.faults result }
     {
         counted(self.file.read(place), &mut self.failures)
@@ -80,6 +82,7 @@ impl Keeper for FileKeeper {
         ensures told { Replaces None bytes.now None result }
         ensures later { self.old.faults ≤ self.new.faults }
         ensures cause { IsErrOf result KeeperError.Failed → HasRisen self.old.faults self.new.faults }
+        ensures counted { CountsFaults self.old.faults self.new.faults result }
         ensures counts { Counts self.old.faults self.new.faults result }
     {
         counted(self.file.replace(bytes), &mut self.failures)

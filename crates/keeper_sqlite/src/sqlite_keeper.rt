@@ -1,7 +1,7 @@
 // A keeper over a connection.
 ghost use Rattle.std.specs.Prelude.{◌≡◌, ◌≤◌, None, IsErrOf};
 ghost use Rattle.dl_outside.specs.Faults.{HasRisen};
-ghost use Rattle.record_keeper.specs.Keeping.{Appends, ReadsAt, Replaces};
+ghost use Rattle.record_keeper.specs.Keeping.{Appends, CountsFaults, ReadsAt, Replaces};
 ghost use Rattle.keeper_sqlite.specs.Counted.{Counts, none_are_few};
 
 use crate::count::counted;
@@ -63,6 +63,7 @@ impl<S: Alter> Keeper for SqliteKeeper<S> {
         ensures told { Appends None bytes.now None result }
         ensures later { self.old.faults ≤ self.new.faults }
         ensures cause { IsErrOf result KeeperError.Failed → HasRisen self.old.faults self.new.faults }
+        ensures counted { CountsFaults self.old.faults self.new.faults result }
         ensures counts { Counts self.old.faults self.new.faults result }
     {
         counted(self.journal.append(bytes), &mut self.failures)
@@ -72,6 +73,7 @@ impl<S: Alter> Keeper for SqliteKeeper<S> {
         ensures told { ReadsAt None place None result }
         ensures later { self.old.faults ≤ self.new.faults }
         ensures cause { IsErrOf result KeeperError.Failed → HasRisen self.old.faults self.new.faults }
+        ensures counted { CountsFaults self.old.faults self.new.faults result }
         ensures counts { Counts self.old.faults self.new.faults result }
     {
         counted(self.journal.read(place), &mut self.failures)
@@ -81,6 +83,7 @@ impl<S: Alter> Keeper for SqliteKeeper<S> {
         ensures told { Replaces None bytes.now None result }
         ensures later { self.old.faults ≤ self.new.faults }
         ensures cause { IsErrOf result KeeperError.Failed → HasRisen self.old.faults self.new.faults }
+        ensures counted { CountsFaults self.old.faults self.new.faults result }
         ensures counts { Counts self.old.faults self.new.faults result }
     {
         counted(self.journal.replace(bytes), &mut self.failures)

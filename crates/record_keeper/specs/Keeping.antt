@@ -1,6 +1,7 @@
 -- What a call of a keeper leaves, by what the keeper tells after it (this project's own). Where it then tells records, it told
 -- records before. It may stop telling at any call.
 use Rattle.std.specs.Prelude.{◌≡◌, ◌⊎◌, ℕ, List, [], ◌∷◌, ◌++◌, Option, Some, None, Result, Ok, Err, slice_get, ⊤}
+use Rattle.dl_outside.specs.Faults.{HasRisen}
 use Rattle.record_keeper.specs.declared.error.KeeperError.{KeeperError}
 use Rattle.record_keeper.specs.declared.error.KeeperError.TheVariants.{Failed, NoMemory}
 
@@ -39,3 +40,9 @@ abbrev pub ReadsAt : Records → ℕ → Records → Result (Option (List ℕ)) 
 ReadsAt old place None result = ⊤
 ReadsAt None place (Some now) result = ⊥
 ReadsAt (Some before) place (Some now) result = (now ≡ before) × FoundAt now place result
+
+-- the count of faults rises at a fault, and stands still at every other answer
+abbrev pub CountsFaults : {T : Type 0} → ℕ → ℕ → Result T KeeperError → Type 0
+CountsFaults before now (Ok value) = now ≡ before
+CountsFaults before now (Err Failed) = HasRisen before now
+CountsFaults before now (Err NoMemory) = now ≡ before

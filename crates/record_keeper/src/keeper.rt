@@ -1,7 +1,7 @@
 // What keeps records.
 ghost use Rattle.std.specs.Prelude.{◌≡◌, ◌≤◌, ◌<◌, ◌^◌, ℕ, List, Option, Some, length, IsErrOf};
 ghost use Rattle.dl_outside.specs.Faults.{HasRisen};
-ghost use Rattle.record_keeper.specs.Keeping.{Appends, ReadsAt, Replaces};
+ghost use Rattle.record_keeper.specs.Keeping.{Appends, CountsFaults, ReadsAt, Replaces};
 
 use crate::KeeperError;
 use sqlite_items::Items;
@@ -18,19 +18,22 @@ pub trait Keeper {
     fn append(&mut self, bytes: &[u8]) -> Result<(), KeeperError>
         ensures told { Appends (records self.old) bytes.now (records self.new) result }
         ensures later { faults self.old ≤ faults self.new }
-        ensures cause { IsErrOf result KeeperError.Failed → HasRisen (faults self.old) (faults self.new) };
+        ensures cause { IsErrOf result KeeperError.Failed → HasRisen (faults self.old) (faults self.new) }
+        ensures counted { CountsFaults (faults self.old) (faults self.new) result };
 
     /// The record at a place from 0 on, none past the end.
     fn read_from(&mut self, place: u64) -> Result<Option<Items<u8>>, KeeperError>
         ensures told { ReadsAt (records self.old) place (records self.new) result }
         ensures later { faults self.old ≤ faults self.new }
-        ensures cause { IsErrOf result KeeperError.Failed → HasRisen (faults self.old) (faults self.new) };
+        ensures cause { IsErrOf result KeeperError.Failed → HasRisen (faults self.old) (faults self.new) }
+        ensures counted { CountsFaults (faults self.old) (faults self.new) result };
 
     /// Makes this the one record. After `Failed` the records are the old ones or this one; after `NoMemory` the old ones.
     fn replace(&mut self, bytes: &[u8]) -> Result<(), KeeperError>
         ensures told { Replaces (records self.old) bytes.now (records self.new) result }
         ensures later { faults self.old ≤ faults self.new }
-        ensures cause { IsErrOf result KeeperError.Failed → HasRisen (faults self.old) (faults self.new) };
+        ensures cause { IsErrOf result KeeperError.Failed → HasRisen (faults self.old) (faults self.new) }
+        ensures counted { CountsFaults (faults self.old) (faults self.new) result };
 
     // A keeper that tells its records has fewer than 2^63.
     ghost few: { (k : Self) (rs : List (List ℕ)) → records k ≡ Some rs → length rs < 2 ^ 63 };

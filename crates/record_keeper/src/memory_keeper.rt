@@ -1,7 +1,7 @@
 // A keeper in memory.
 ghost use Rattle.std.specs.Prelude.{◌≡◌, ◌≤◌, ◌<◌, ◌^◌, ◌∷◌, ◌++◌, [], length, slice_get, IfOk, OnErr, OnOk, IsErrOf};
 ghost use Rattle.dl_outside.specs.Faults.{HasRisen};
-ghost use Rattle.record_keeper.specs.Keeping.{Appends, ReadsAt, Replaces};
+ghost use Rattle.record_keeper.specs.Keeping.{Appends, CountsFaults, ReadsAt, Replaces};
 ghost use Rattle.record_keeper.specs.Memory.{told_records, few_are_told, planned_in, Leaves};
 
 use crate::{Keeper, KeeperError};
@@ -79,6 +79,7 @@ impl Keeper for MemoryKeeper {
         ensures told { Appends (told_records self.old) bytes.now (told_records self.new) result }
         ensures later { self.old.faults ≤ self.new.faults }
         ensures cause { IsErrOf result KeeperError.Failed → HasRisen self.old.faults self.new.faults }
+        ensures counted { CountsFaults self.old.faults self.new.faults result }
         ensures planned { Leaves self.old (self.old.records ++ bytes.now ∷ []) self.new result }
     {
         let planned = planned(&self.fails, self.calls);
@@ -99,6 +100,7 @@ impl Keeper for MemoryKeeper {
         ensures told { ReadsAt (told_records self.old) place (told_records self.new) result }
         ensures later { self.old.faults ≤ self.new.faults }
         ensures cause { IsErrOf result KeeperError.Failed → HasRisen self.old.faults self.new.faults }
+        ensures counted { CountsFaults self.old.faults self.new.faults result }
         ensures planned { Leaves self.old self.old.records self.new result }
         ensures found { IfOk result (λ found. slice_get self.old.records place ≡ found) }
     {
@@ -118,6 +120,7 @@ impl Keeper for MemoryKeeper {
         ensures told { Replaces (told_records self.old) bytes.now (told_records self.new) result }
         ensures later { self.old.faults ≤ self.new.faults }
         ensures cause { IsErrOf result KeeperError.Failed → HasRisen self.old.faults self.new.faults }
+        ensures counted { CountsFaults self.old.faults self.new.faults result }
         ensures planned { Leaves self.old (bytes.now ∷ []) self.new result }
     {
         let planned = planned(&self.fails, self.calls);
